@@ -1,0 +1,1 @@
+-- Lemmas and proofs of the statements.

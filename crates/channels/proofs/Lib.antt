@@ -1,0 +1,3 @@
+-- Lemmas of channels and plans, for the contracts here and for the crates above.
+pub mod Listed
+pub mod Facts

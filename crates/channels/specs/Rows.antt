@@ -1,0 +1,18 @@
+-- The rule of the table of inverses, as a test that computes.
+-- row, rows. Assumes nothing.
+use mathlib.Core.Bool.{Bool, true, false, _&&_}
+use mathlib.Core.List.{List, [], _∷_}
+use Prim.Native.Nat.{ℕ, suc, _*_, _%_, _-_}
+use lib.Dec.{eqb, ltb}
+use lib.ListN.{length, take, drop}
+
+-- the numbers are below q, and their products with a, a + 1, .. are 1 modulo q
+unfoldable pub row : (q a : ℕ) → List ℕ → Bool
+row q a [] = true
+row q a (v ∷ vs) = ltb v q && eqb ((a * v) % q) 1 && row q (suc a) vs
+
+-- for each q a row of q - 1 such numbers for 1, 2, .., and nothing after the last row
+unfoldable pub rows : (qs vs : List ℕ) → Bool
+rows [] [] = true
+rows [] (v ∷ vs) = false
+rows (q ∷ qs) vs = eqb (length (take (q - 1) vs)) (q - 1) && row q 1 (take (q - 1) vs) && rows qs (drop (q - 1) vs)

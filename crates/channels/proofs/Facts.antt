@@ -19,7 +19,7 @@ pow-fits q d h e =
     let b : 255 ^ d ≤ 255 ^ 4 = pow-le-pow-right {n = 255} (lit≤ tt) e in
     omega arith
 
-true-from : (b : Bool) → T b → b ≡ true
+pub true-from : (b : Bool) → T b → b ≡ true
 true-from true t = refl
 true-from false t = absurd t
 
@@ -70,7 +70,7 @@ follows-valid q d k v =
       few = leb-true d 4 (f .1);
       enough = leb-true d q (e .1);
       spare = ltb-true (k * (d - 1)) q (b .1);
-      held = leb-true (q ^ d) 65536 (a .1)
+      held = leb-true (q ^ d) 65536 (a .1);
     }
 
 pub good-from-valid : (q d k : ℕ) → isValid q d k ≡ true → Valid q d k

@@ -2,4 +2,5 @@
 pub mod Rows
 pub mod Valid
 pub mod Settings
+pub mod Plans
 pub mod Faults

@@ -1,10 +1,15 @@
--- The rule of the table of inverses, as a test that computes.
--- row, rows. Assumes nothing.
+-- The rule of the table of inverses, and the same as a test that computes.
+-- Inverse, row, rows. Assumes nothing.
 use mathlib.Core.Bool.{Bool, true, false, _&&_}
 use mathlib.Core.List.{List, [], _∷_}
-use Prim.Native.Nat.{ℕ, suc, _*_, _%_, _-_}
+use Prim.Native.Nat.{ℕ, suc, _*_, _%_, _-_, _<_}
+use mathlib.Core.Path.{_≡_}
 use lib.Dec.{eqb, ltb}
 use lib.ListN.{length, take, drop}
+
+-- v is the number below q with which a makes the product 1 modulo q
+abbrev pub Inverse : (q a v : ℕ) → Type 0
+Inverse q a v = (v < q) × ((a * v) % q ≡ 1)
 
 -- the numbers are below q, and their products with a, a + 1, .. are 1 modulo q
 unfoldable pub row : (q a : ℕ) → List ℕ → Bool

@@ -2,7 +2,9 @@
 // A frame of a channel has q parts, numbered from 0, each with q slots, numbered from 0.
 pub mod channel;
 pub mod fault;
+pub mod plan;
 mod table;
 
 pub use channel::Channel;
 pub use fault::Fault;
+pub use plan::Plan;

@@ -2,7 +2,7 @@
 // The proof looks at the whole table once, by a test that it computes.
 ghost use Rattle.channels.specs.Rows.{rows};
 ghost use Rattle.speakall.specs.Plan.{sides as listedSides};
-ghost use lib.Dec.{T};
+ghost use mathlib.Core.Bool.{true};
 ghost use mathlib.Core.Path.{_≡_};
 
 // The odd primes below 256.
@@ -6101,7 +6101,7 @@ pub fn sides() -> &'static [u8]
 
 // The inverses modulo each of `sides()`, row after row; the row of q has q - 1 numbers.
 pub fn inverses() -> &'static [u8]
-    ensures { λ r. ⌜ T (rows listedSides (now r)) ⌝ }
+    ensures { λ r. ⌜ rows listedSides (now r) ≡ true ⌝ }
 {
     &INVERSES
 }

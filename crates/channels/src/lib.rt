@@ -3,7 +3,7 @@
 pub mod channel;
 pub mod fault;
 pub mod plan;
-mod table;
+pub mod table;
 
 pub use channel::Channel;
 pub use fault::Fault;

@@ -8,3 +8,6 @@ pub mod table;
 pub use channel::Channel;
 pub use fault::Fault;
 pub use plan::Plan;
+
+#[cfg(test)]
+mod tests;

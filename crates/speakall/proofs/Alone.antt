@@ -36,6 +36,7 @@ meetAll-more q ss f n = rw (add-one n) (go ss)
     go [] = refl
     go (t ∷ ts) = let r = go ts in omega arith
 
+-- the sum over the n parts from x on
 many : (q : ℕ) (ss : List Speaker) (s : Speaker) → List·Memᴰ s ss → (x n y : ℕ) → y ≡ x + n → 2 * n + meetAll q ss (s .plan) x ≤ length (wordsOf q ss (s .plan) x n) + meetAll q ss (s .plan) y
 unfolding wordsOf
 many q ss s here x zero y e = let h : y ≡ x = omega arith in rw h (omega arith)
@@ -64,6 +65,7 @@ first-apart t ts h =
     (λ u m e. rw (is-in (t .plan) ts u m e) at (a .0), a .1)
 
 module _ (c : Channel) (good : Good c) where
+  -- speakers of other plans, at most d - 1 parts each
   others : (f : Plan) → IsPlan c f → (ts : List Speaker) → ((t : Speaker) → List·Memᴰ t ts → IsPlan c (t .plan) × (t .plan ≡ f → ⊥)) → meetAll (c .q) ts f (c .q) ≤ length ts * (c .d - 1)
   unfolding meetAll
   others f hf [] h = omega arith
@@ -71,6 +73,7 @@ module _ (c : Channel) (good : Good c) where
       let a = h t (List·Memᴰ·head refl) in
       omega (arith, seldom-meet c good (t .plan) f (a .0) hf (a .1), others f hf ts (λ u m. h u (List·Memᴰ·tail m)))
 
+  -- and one speaker more, whose plan it is, in all q parts
   all-meet : (ss : List Speaker) → ((t : Speaker) → List·Memᴰ t ss → IsPlan c (t .plan)) → T (different (plansOf ss)) → (s : Speaker) → List·Memᴰ s ss → meetAll (c .q) ss (s .plan) (c .q) + (c .d - 1) ≤ c .q + length ss * (c .d - 1)
   unfolding meetAll
   all-meet [] plans apart s m = elim m [ ]

@@ -1,6 +1,6 @@
 -- What is heard where a speaker speaks: its word if it is alone there, else noise (own-part).
 -- Idea: count the speakers in a slot (`crowd`): none is silence, one is that one's word, two or more are noise.
--- So the words heard of a speaker are its message's (own-agrees), of different parts (own-sound), and as many as there are parts, but for those with two or more (own-many).
+-- So the words heard of a speaker are its message's (own-agrees), and of different parts (own-sound).
 use mathlib.Core.Path.{_≡_, refl, sym, ap, subst, _∙_}
 use mathlib.Core.Bool.{Bool, true, false, cond}
 use mathlib.Core.List.{List, [], _∷_, List·Memᴰ, List·Memᴰ·cases-cons}

@@ -1,6 +1,7 @@
 -- At most one message of s numbers lies within e of the words, if they are 2 e + s or more (near-equal, only-one).
 -- Idea: at most 2 e words are off the one message or the other; at the parts of all others (`both`) the two agree, and those are s or more.
--- Parts of sound words are different points (sound-spread), so only-one-in asks only that 1 to n - 1 have inverses modulo p; agrees-off: no word is off a message that lies on all.
+-- Parts of sound words are different points (partsOf, sound-spread), so of p only-one-in asks only that 1 to n - 1 have inverses.
+-- No word is off a message that lies on all (agrees-off).
 use mathlib.Core.Path.{_≡_, refl, sym, _∙_}
 use mathlib.Core.Bool.{Bool, true, false, cond, not, _&&_}
 use mathlib.Core.List.{List, [], _∷_}
@@ -18,6 +19,7 @@ use Rattle.speakall.proofs.Modulo.{Gap, Units}
 use Rattle.speakall.proofs.Polynomial.{Gaps, Agree, Spread, gaps-from-units, agree-equal, wordAt-is}
 use Rattle.speakall.proofs.Inverses.{word-units}
 
+-- the parts of words
 unfoldable pub partsOf : List Word → List ℕ
 partsOf [] = []
 partsOf (w ∷ ws) = w .part ∷ partsOf ws

@@ -1,5 +1,5 @@
 -- What follows of a channel's numbers.
--- pow-fits, Follows, follows-valid, good-from-valid, test-from-valid. Assumes nothing.
+-- pow-fits, true-from, holds, fit-from-test, test-from-valid, channel-good. Assumes nothing.
 use mathlib.Core.Path.{_≡_, refl}
 use mathlib.Core.Bool.{Bool, true, false, _&&_, _||_}
 use mathlib.Core.List.{List, [], _∷_}
@@ -9,8 +9,10 @@ use native.Mathlib.Omega.{arith}
 use lib.Dec.{T, eqb, ltb, leb, lit≤}
 use Rattle.std.proofs.shelf.Tests.{and-parts, and-from, eqb-true, or-cases, ltb-true, leb-true, lt-ltb, le-leb}
 use mathlib.Core.Logic.{⊎-elim}
-use Rattle.speakall.specs.Plan.{listed, sides}
-use Rattle.channels.specs.Valid.{Valid, isValid}
+use Rattle.speakall.specs.Plan.{Good, listed, sides}
+use Rattle.channels.specs.declared.channel.Channel.{Channel}
+use Rattle.channels.specs.Settings.{settings}
+use Rattle.channels.specs.Valid.{Fit, Valid, isValid}
 
 -- four digits of a byte fit 32 bits
 pub pow-fits : (q d : ℕ) → q < 256 → d ≤ 4 → q ^ d < 2 ^ 32
@@ -42,43 +44,39 @@ listed-within a b q (x ∷ xs) w l =
     (λ e. let e' = eqb-true q x e in let u = ltb-true a x (w2 .0) in let v = ltb-true x b (w2 .1) in (omega arith, omega arith))
     (λ m. listed-within a b q xs (w1 .1) m) (or-cases (eqb q x) (listed q xs) l)
 
--- each part of the test
-pub record Follows (q d k : ℕ) : Type 0 where
-  pub in-list : listed q sides ≡ true
-  pub wide : 2 < q
-  pub narrow : q < 252
-  pub some : 0 < d
-  pub few : d ≤ 4
-  pub enough : d ≤ q
-  pub spare : k * (d - 1) < q
-  pub held : q ^ d ≤ 65536
-
-pub follows-valid : (q d k : ℕ) → isValid q d k ≡ true → Follows q d k
+-- the test gives each of its parts
+pub fit-from-test : (q d k : ℕ) → isValid q d k ≡ true → Fit q d k
 unfolding isValid within
-follows-valid q d k v =
+fit-from-test q d k v =
     let a = and-parts (listed q sides && ltb 0 d && leb d 4 && leb d q && ltb (k * (d - 1)) q) (leb (q ^ d) 65536) v in
     let b = and-parts (listed q sides && ltb 0 d && leb d 4 && leb d q) (ltb (k * (d - 1)) q) (a .0) in
     let e = and-parts (listed q sides && ltb 0 d && leb d 4) (leb d q) (b .0) in
     let f = and-parts (listed q sides && ltb 0 d) (leb d 4) (e .0) in
     let g = and-parts (listed q sides) (ltb 0 d) (f .0) in
     let w = listed-within 2 252 q sides refl (g .0) in
+    let some = ltb-true 0 d (g .1) in
+    let few = leb-true d 4 (f .1) in
+    let enough = leb-true d q (e .1) in
+    let spare = ltb-true (k * (d - 1)) q (b .1) in
+    let held = leb-true (q ^ d) 65536 (a .1) in
     record {
-      in-list = g .0;
+      good = ((holds (listed q sides) (g .0), some, enough, spare, w .1, held), few);
+      valid = v;
+      side = g .0;
       wide = w .0;
       narrow = w .1;
-      some = ltb-true 0 d (g .1);
-      few = leb-true d 4 (f .1);
-      enough = leb-true d q (e .1);
-      spare = ltb-true (k * (d - 1)) q (b .1);
-      held = leb-true (q ^ d) 65536 (a .1);
+      some = some;
+      few = few;
+      enough = enough;
+      spare = spare;
+      held = held;
     }
-
-pub good-from-valid : (q d k : ℕ) → isValid q d k ≡ true → Valid q d k
-good-from-valid q d k v =
-    let f = follows-valid q d k v in
-    ((holds (listed q sides) (f .in-list), f .some, f .enough, f .spare, f .narrow, f .held), f .few)
 
 pub test-from-valid : (q d k : ℕ) → Valid q d k → isValid q d k ≡ true
 unfolding isValid
 test-from-valid q d k v =
     and-from _ _ (and-from _ _ (and-from _ _ (and-from _ _ (and-from _ _ (true-from _ (v .0 .0)) (lt-ltb 0 d (v .0 .1))) (le-leb d 4 (v .1))) (le-leb d q (v .0 .2))) (lt-ltb _ q (v .0 .3))) (le-leb (q ^ d) 65536 (v .0 .5))
+
+-- a channel of the code is one of the statement's
+pub channel-good : (c : Channel) → Good (settings c)
+channel-good c = fit-from-test (c .q) (c .d) (c .k) (c .valid) .good .0

@@ -1,7 +1,8 @@
 -- Which numbers make a channel of the code: the statement's good channels with at most four digits.
--- Valid, isValid. Assumes nothing.
-use mathlib.Core.Bool.{Bool, _&&_}
-use Prim.Native.Nat.{ℕ, _*_, _-_, _^_, _≤_}
+-- Valid, isValid, Fit. Assumes nothing.
+use mathlib.Core.Path.{_≡_}
+use mathlib.Core.Bool.{Bool, true, _&&_}
+use Prim.Native.Nat.{ℕ, _*_, _-_, _^_, _≤_, _<_}
 use lib.Dec.{leb, ltb}
 use Rattle.speakall.specs.Plan.{Good, listed, sides}
 
@@ -11,3 +12,16 @@ Valid q d k = Good (record { q = q; d = d; k = k }) × (d ≤ 4)
 -- the same, as a test
 unfoldable pub isValid : (q d k : ℕ) → Bool
 isValid q d k = listed q sides && ltb 0 d && leb d 4 && leb d q && ltb (k * (d - 1)) q && leb (q ^ d) 65536
+
+-- the same, in its parts: what a channel's numbers are known by
+pub record Fit (q d k : ℕ) : Type 0 where
+  pub good : Valid q d k
+  pub valid : isValid q d k ≡ true
+  pub side : listed q sides ≡ true
+  pub wide : 2 < q
+  pub narrow : q < 252
+  pub some : 0 < d
+  pub few : d ≤ 4
+  pub enough : d ≤ q
+  pub spare : k * (d - 1) < q
+  pub held : q ^ d ≤ 65536

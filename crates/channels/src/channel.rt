@@ -2,7 +2,8 @@
 // How it is made, and its sizes, stand in `make`, apart from the struct, whose facts they use.
 ghost use Prim.Native.Nat.{_*_, _-_, _<_, _^_, _≤_};
 ghost use Rattle.channels.specs.Valid.{isValid};
-ghost use lib.Dec.{T};
+ghost use Rattle.speakall.specs.Plan.{listed, sides};
+ghost use mathlib.Core.Bool.{true};
 ghost use mathlib.Core.Path.{_≡_};
 
 mod make;
@@ -15,12 +16,14 @@ pub struct Channel {
     d: u8,
     // Others that may speak in the same frame.
     k: u8,
-    // All that makes it a channel, and what follows of it, for the crates above.
-    ghost valid: { T (isValid q d k) },
+    // All that makes it a channel, whole and in its parts, for the crates above.
+    ghost valid: { isValid q d k ≡ true },
+    ghost side: { listed q sides ≡ true },
     ghost wide: { 2 < q },
     ghost narrow: { q < 252 },
     ghost some: { 0 < d },
     ghost few: { d ≤ 4 },
+    ghost enough: { d ≤ q },
     ghost spare: { k * (d - 1) < q },
     ghost held: { q ^ d ≤ 65536 },
 }

@@ -2,12 +2,12 @@
 ghost use Prim.Native.Nat.{_*_, _^_, _<_, _≤_, _%_};
 ghost use Rattle.channels.specs.Rows.{Inverse, rows};
 ghost use Rattle.channels.specs.Settings.{Made, settings};
-ghost use Rattle.channels.specs.Valid.{Valid, isValid};
+ghost use Rattle.channels.specs.Valid.{Fit, Valid, isValid};
 ghost use Rattle.channels.specs.declared.fault.Fault.the-variants.{Channel as FaultChannel};
-ghost use Rattle.speakall.specs.Plan.{listed, size};
+ghost use Rattle.speakall.specs.Plan.{listed, sides as listedSides, size};
 ghost use Rattle.std.specs.Options.{Cases as BySome};
 ghost use Rattle.std.specs.Results.{Cases};
-ghost use mathlib.Core.Bool.{true};
+ghost use mathlib.Core.Bool.{false, true};
 ghost use mathlib.Core.Path.{_≡_};
 use super::Channel;
 use crate::fault::Fault;
@@ -27,7 +27,7 @@ fn is_in(q: u8, numbers: &[u8]) -> bool
 }
 
 // The inverse of a modulo q, looked up in the rows of inverses of these sides.
-fn look_up(q: u8, a: u8, sides: &[u8], inverses: &[u8]) -> Option<u8>
+fn entry(q: u8, a: u8, sides: &[u8], inverses: &[u8]) -> Option<u8>
     requires rule { ⌜ rows (now sides) (now inverses) ≡ true ⌝ }
     requires there { ⌜ listed q (now sides) ≡ true ⌝ }
     requires some { ⌜ 0 < a ⌝ }
@@ -44,8 +44,18 @@ fn look_up(q: u8, a: u8, sides: &[u8], inverses: &[u8]) -> Option<u8>
     None
 }
 
-// Whether these are the numbers of a channel.
-fn is_channel(q: u8, d: u8, k: u8) -> bool
+// The inverse of a modulo q, by the table.
+fn look_up(q: u8, a: u8) -> Option<u8>
+    requires there { ⌜ listed q listedSides ≡ true ⌝ }
+    requires some { ⌜ 0 < a ⌝ }
+    requires below { ⌜ a < q ⌝ }
+    ensures { λ r. ⌜ BySome r ⊥ (λ v. Inverse q a v) ⌝ }
+{
+    entry(q, a, table::sides(), inverses::inverses())
+}
+
+// Whether these numbers pass the test of a channel's.
+fn passes(q: u8, d: u8, k: u8) -> bool
     ensures { λ r. ⌜ r ≡ isValid q d k ⌝ }
 {
     is_in(q, table::sides())
@@ -54,6 +64,14 @@ fn is_channel(q: u8, d: u8, k: u8) -> bool
         && d <= q
         && u32::from(k) * (u32::from(d) - 1) < u32::from(q)
         && u32::from(q).pow(u32::from(d)) <= 65536
+}
+
+// Whether these are the numbers of a channel.
+fn is_channel(q: u8, d: u8, k: u8) -> bool
+    ensures yes { λ r. ⌜ (r ≡ true → Fit q d k) ⌝ }
+    ensures no { λ r. ⌜ (r ≡ false → Valid q d k → ⊥) ⌝ }
+{
+    passes(q, d, k)
 }
 
 impl Channel {
@@ -96,6 +114,6 @@ impl Channel {
         if a == 0 || a >= self.q {
             return None;
         }
-        look_up(self.q, a, table::sides(), inverses::inverses())
+        look_up(self.q, a)
     }
 }

@@ -3,9 +3,10 @@ ghost use Prim.Native.Nat.{_<_, _^_, _≤_};
 ghost use Rattle.channels.specs.Plans.{Planned, planIn};
 ghost use Rattle.channels.specs.Settings.{settings};
 ghost use Rattle.channels.specs.declared.fault.Fault.the-variants.{Sender as FaultSender};
-ghost use Rattle.speakall.specs.Plan.{digits as digitsOf, slotAt};
+ghost use Rattle.speakall.specs.Plan.{below, digits as digitsOf, slotAt};
 ghost use Rattle.std.specs.Options.{Cases as BySome};
 ghost use Rattle.std.specs.Results.{Cases};
+ghost use lib.Dec.{T};
 ghost use lib.ListN.{length, take};
 ghost use mathlib.Core.Path.{_≡_};
 use super::Plan;
@@ -17,6 +18,7 @@ fn written(number: u32, q: u8, count: u8) -> [u8; 4]
     requires base { ⌜ 2 < q ⌝ }
     requires few { ⌜ count ≤ 4 ⌝ }
     ensures digits { λ r. ⌜ take count r ≡ digitsOf q number count ⌝ }
+    ensures below { λ r. ⌜ T (below q (take count r)) ⌝ }
     ensures four { λ r. ⌜ length r ≡ 4 ⌝ }
 {
     let mut digits = [0; 4];
@@ -42,6 +44,20 @@ impl Plan {
         Ok(Plan { q, digits, count })
     }
 
+    // The polynomial's value at x, modulo q: from the highest coefficient down, a product and a remainder for each.
+    fn value(self, x: u8) -> u8
+        ensures is { λ r. ⌜ r ≡ slotAt (self .q) (planIn self) x ⌝ }
+        ensures below { λ r. ⌜ r < self .q ⌝ }
+    {
+        let q = u64::from(self.q);
+        let mut value: u32 = 0;
+        for i in (0..self.count).rev() {
+            let digit = self.digits[usize::from(i)];
+            value = ((u64::from(digit) + u64::from(x) * u64::from(value)) % q) as u32;
+        }
+        value as u8
+    }
+
     // The slot in which the sender speaks in this part: the polynomial's value there, modulo q. None for a part that isn't there.
     pub fn slot(self, part: u8) -> Option<u8>
         ensures { λ r. ⌜ BySome r (self .q ≤ part) (λ s. (part < self .q) × (s < self .q) × (s ≡ slotAt (self .q) (planIn self) part)) ⌝ }
@@ -49,12 +65,6 @@ impl Plan {
         if part >= self.q {
             return None;
         }
-        let q = u64::from(self.q);
-        let mut value: u32 = 0;
-        for i in (0..self.count).rev() {
-            let digit = self.digits[usize::from(i)];
-            value = ((u64::from(digit) + u64::from(part) * u64::from(value)) % q) as u32;
-        }
-        Some(value as u8)
+        Some(self.value(part))
     }
 }

@@ -1,17 +1,13 @@
-use borrow.Author.Needs.{needs}
-use native.Mathlib.Omega.{arith}
-use Rattle.std.proofs.shelf.Ways.{tells}
+use mathlib.Core.Path.{sym, _∙_}
+use Rattle.std.proofs.shelf.Tests.{both-ways}
 use Rattle.channels.specs.Valid.{isValid}
-use Rattle.channels.proofs.Facts.{pow-fits}
+use Rattle.channels.proofs.Facts.{fit-from-test, test-from-valid}
 use Rattle.channels.proofs.channel.make.is_channel.Needs as need
 
-pub pow-requires : need.pow-requires
-pow-requires c κs = search (needs, pow-fits)
-
-pub returns-then-from : need.returns-then-from
-unfolding isValid
-returns-then-from c = grind (arith, tells)
-
-pub returns-else-from : need.returns-else-from
-unfolding isValid
-returns-else-from c = grind (arith, tells)
+pub returns : need.returns
+returns c =
+    let q = c .args .q in
+    let d = c .args .d in
+    let k = c .args .k in
+    let same = sym (c .passes .ensures) in
+    record { yes = λ e. fit-from-test q d k (same ∙ e); no = λ e v. both-ways (isValid q d k) (same ∙ e) (test-from-valid q d k v) }

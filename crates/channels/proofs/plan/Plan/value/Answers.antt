@@ -1,7 +1,7 @@
 use borrow.Author.Needs.{needs}
 use native.Mathlib.Omega.{arith}
 use Rattle.channels.proofs.Digits.{slot-lower, slot-none}
-use Rattle.channels.proofs.plan.Plan.slot.Needs as need
+use Rattle.channels.proofs.plan.Plan.value.Needs as need
 
 pub loop-i-holds : need.loop-i-holds
 loop-i-holds c = search (needs, slot-none)

@@ -4,7 +4,7 @@ use Prim.Native.Nat.{_≤_}
 use lib.ListN.{length, drop}
 use Rattle.speakall.specs.Plan.{listed}
 use Rattle.channels.specs.Rows.{rows}
-use Rattle.channels.proofs.channel.make.look_up.Given as given
+use Rattle.channels.proofs.channel.make.entry.Given as given
 
 -- the side is among those left, and the rows left begin at `start`
 abbrev pub Inv-loop-side : given.InvT-loop-side

@@ -1,0 +1,2 @@
+-- Lemmas on messages and the polynomial through words.
+mod Horner

@@ -1,0 +1,1 @@
+-- What the code of messages promises, over the statements.

@@ -1,2 +1,3 @@
 -- Lemmas on messages and the polynomial through words.
 mod Horner
+mod Table

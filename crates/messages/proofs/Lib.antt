@@ -1,3 +1,4 @@
 -- Lemmas on messages and the polynomial through words.
 mod Horner
 mod Table
+mod Points

@@ -5,8 +5,16 @@ ghost use Rattle.speakall.specs.Frame.{wordAt};
 ghost use lib.ListN.{length, getD};
 ghost use mathlib.Core.Path.{_≡_};
 
+// A word heard of a sender, with the part of the frame in which it was heard.
+#[derive(Clone, Copy)]
+pub struct PartWord {
+    pub part: u8,
+    pub value: u32,
+}
+
 // Words are numbers modulo this prime, 2^31 - 1.
 mod inverses;
+mod through;
 
 const P: u64 = 2_147_483_647;
 

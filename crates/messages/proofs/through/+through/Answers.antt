@@ -1,0 +1,2 @@
+use borrow.Author.Needs.{needs}
+use Rattle.messages.proofs.through.+through.Needs as need

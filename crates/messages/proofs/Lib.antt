@@ -2,3 +2,4 @@
 mod Horner
 mod Table
 mod Points
+mod Sound

@@ -9,7 +9,7 @@ use Rattle.messages.specs.declared.PartWord.{PartWord}
 use Rattle.speakall.proofs.Modulo.{add-cong, mul-cong, mul-mod-mod}
 use Rattle.speakall.proofs.Polynomial.{slotAt-lt, wordAt-is}
 use Rattle.speakall.specs.Frame.{p, wordAt}
-use Rattle.std.proofs.shelf.Lists.{drop-all, getD-past, getD-set-same, getD-set-other}
+use Rattle.std.proofs.shelf.Lists.{drop-all, getD-drop, getD-past, getD-set-same, getD-set-other}
 use Rattle.std.proofs.shelf.Tests.{cases-lt, cases-eq}
 use borrow.Rule.Slice.PartMut.{putMid}
 use lib.Dec.{lit<}
@@ -90,12 +90,33 @@ product-is a n (y ∷ ys) (f ∷ fs) s e h x =
     rw (h 0, headed ys x) (turn a n x y (getD ys 0 0) (wordAt (drop 1 ys) x) (wordAt fs x) s rest)
 
 -- what the values are after the part behind the first was lent and is now g
-pub first-kept : (ys g : List ℕ) → 0 < length ys → putMid 1 (length ys - 1) ys g ≡ getD ys 0 0 ∷ g
+first-kept : (ys g : List ℕ) → 0 < length ys → putMid 1 (length ys - 1) ys g ≡ getD ys 0 0 ∷ g
 first-kept [] g h = absurd (omega arith)
 first-kept (y ∷ ys) g h = let e : suc (length ys) - 1 ≡ length ys = omega arith in rw (e, drop-all (length ys) ys (omega arith), append-nil g) refl
 
-pub at-first : (x₀ y₀ : ℕ) (f g : List ℕ) → y₀ < p → Product x₀ y₀ g f → wordAt f x₀ ≡ y₀
+at-first : (x₀ y₀ : ℕ) (f g : List ℕ) → y₀ < p → Product x₀ y₀ g f → wordAt f x₀ ≡ y₀
 at-first x₀ y₀ f g h e = let k = e x₀ in let l = wordAt-lt f x₀ in omega arith
 
-pub at-other : (x y x₀ y₀ : ℕ) (f g : List ℕ) → y < p → Product x₀ y₀ g f → Slope x y x₀ y₀ (wordAt g x) → wordAt f x ≡ y
+at-other : (x y x₀ y₀ : ℕ) (f g : List ℕ) → y < p → Product x₀ y₀ g f → Slope x y x₀ y₀ (wordAt g x) → wordAt f x ≡ y
 at-other x y x₀ y₀ f g h e s = let k = e x in let l = wordAt-lt f x in omega arith
+
+pub reduced-left : (ys left : List ℕ) → left ≡ drop 1 ys → Reduced ys → Reduced left
+reduced-left ys left e r k = rw (e, getD-drop 1 ys k 0) (r (1 + k))
+
+pub reduced-first : (ys g : List ℕ) → 0 < length ys → Reduced ys → Reduced g → Reduced (putMid 1 (length ys - 1) ys g)
+reduced-first ys g lt r s k = rw (first-kept ys g lt) (at k)
+  where
+    at : (k : ℕ) → getD (getD ys 0 0 ∷ g) k 0 < p
+    at zero = r 0
+    at (suc k) = s k
+
+-- g has at each word left the slope from the first, so f goes through all
+pub through-more : (ws left : List PartWord) (ys rest zs g f : List ℕ) → left ≡ drop 1 ws → rest ≡ drop 1 ys → length ws ≡ length ys → 0 < length ys → Reduced ys → ((k : ℕ) → k < length left → Slope (partAt left k) (getD rest k 0) (partAt ws 0) (getD ys 0 0) (getD zs k 0)) → ((k : ℕ) → k < length left → wordAt g (partAt left k) ≡ getD zs k 0) → Product (partAt ws 0) (getD (putMid 1 (length ys - 1) ys g) 0 0) (drop 1 (putMid 1 (length ys - 1) ys g)) f → (k : ℕ) → k < length ws → wordAt f (partAt ws k) ≡ getD ys k 0
+through-more ws left ys rest zs g f e d l lt r slopes through product = go ws ys l r (rw (e, d) at slopes) (rw e at through) (rw (first-kept ys g lt) at product)
+  where
+    go : (ws : List PartWord) (ys : List ℕ) → length ws ≡ length ys → Reduced ys → ((k : ℕ) → k < length (drop 1 ws) → Slope (partAt (drop 1 ws) k) (getD (drop 1 ys) k 0) (partAt ws 0) (getD ys 0 0) (getD zs k 0)) → ((k : ℕ) → k < length (drop 1 ws) → wordAt g (partAt (drop 1 ws) k) ≡ getD zs k 0) → Product (partAt ws 0) (getD ys 0 0) g f → (k : ℕ) → k < length ws → wordAt f (partAt ws k) ≡ getD ys k 0
+    go [] ys l r slopes through product k h = absurd (omega arith)
+    go (w ∷ ws) [] l r slopes through product k h = absurd (omega arith)
+    go (w ∷ ws) (y ∷ ys) l r slopes through product zero h = at-first (w .part) y f g (r 0) product
+    go (w ∷ ws) (y ∷ ys) l r slopes through product (suc k) h =
+        at-other (partAt ws k) (getD ys k 0) (w .part) y f g (r (suc k)) product (rw (through k (omega arith)) (slopes k (omega arith)))

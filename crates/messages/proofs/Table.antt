@@ -26,7 +26,7 @@ true-from : (b : Bool) → T b → b ≡ true
 true-from true t = refl
 true-from false t = absurd t
 
-pub inverse-at : (vs : List ℕ) (a : ℕ) → T (inverses-from 1 vs && eqb (length vs) 250) → 0 < a → a ≤ 250 → (getD vs (a - 1) 0 < p) × ((a * getD vs (a - 1) 0) % p ≡ 1)
+pub inverse-at : (vs : List ℕ) (a : ℕ) → T (inverses-from 1 vs && eqb (length vs) 250) → 0 < a → a < 251 → (getD vs (a - 1) 0 < p) × ((a * getD vs (a - 1) 0) % p ≡ 1)
 inverse-at vs a t g h =
     let both = and-parts (inverses-from 1 vs) (eqb (length vs) 250) (true-from (inverses-from 1 vs && eqb (length vs) 250) t) in
     at 1 vs (a - 1) a (both .0) (omega (arith, eqb-true (length vs) 250 (both .1))) (omega arith)

@@ -37,7 +37,7 @@ const INVERSES: [u32; 250] = [
 
 // The inverse of a number from 1 to 250.
 fn inverse(a: u8) -> u64
-    requires { ⌜ 0 < a ⌝ ∗ ⌜ a ≤ 250 ⌝ }
+    requires { ⌜ 0 < a ⌝ ∗ ⌜ a < 251 ⌝ }
     ensures { λ r. ⌜ (r < p) × ((a * r) % p ≡ 1) ⌝ }
 {
     INVERSES[a as usize - 1] as u64
@@ -45,7 +45,7 @@ fn inverse(a: u8) -> u64
 
 // The inverse of the difference x - a of two parts, which may be negative: then it is minus the inverse of a - x.
 pub fn inverse_of_difference(x: u8, a: u8) -> u64
-    requires { ⌜ x ≤ 250 ⌝ ∗ ⌜ a ≤ 250 ⌝ ∗ ⌜ (x ≡ a → ⊥) ⌝ }
+    requires { ⌜ x < 251 ⌝ ∗ ⌜ a < 251 ⌝ ∗ ⌜ (x ≡ a → ⊥) ⌝ }
     ensures { λ r. ⌜ (r ≤ p) × ((x * r) % p ≡ (a * r + 1) % p) ⌝ }
 {
     if a < x {

@@ -1,6 +1,6 @@
 // The polynomial through given words, of as many coefficients as there are words, worked out in the memory that is lent for it.
 // f = y₀ + (X - x₀) · g, where g goes through the slopes (yᵢ - y₀) / (xᵢ - x₀) of the other words: a recursion over the words left.
-ghost use Prim.Native.Nat.{ℕ, _<_, _≤_};
+ghost use Prim.Native.Nat.{ℕ, _<_};
 ghost use Rattle.messages.specs.Heard.{Product, Reduced, Slope, partAt, wordsIn};
 ghost use Rattle.speakall.specs.Code.{soundIn};
 ghost use Rattle.speakall.specs.Frame.{p, wordAt};
@@ -14,7 +14,7 @@ use crate::inverses::inverse_of_difference;
 
 // The slope (y - y₀) / (x - x₀) from one point to another.
 fn slope(x: u8, y: u32, x0: u8, y0: u32) -> u32
-    requires { ⌜ x ≤ 250 ⌝ ∗ ⌜ x0 ≤ 250 ⌝ ∗ ⌜ (x ≡ x0 → ⊥) ⌝ ∗ ⌜ y < p ⌝ ∗ ⌜ y0 < p ⌝ }
+    requires { ⌜ x < 251 ⌝ ∗ ⌜ x0 < 251 ⌝ ∗ ⌜ (x ≡ x0 → ⊥) ⌝ ∗ ⌜ y < p ⌝ ∗ ⌜ y0 < p ⌝ }
     ensures { λ r. ⌜ (r < p) × Slope x y x0 y0 r ⌝ }
 {
     let rise = y as u64 + (P - y0 as u64);
@@ -24,8 +24,8 @@ fn slope(x: u8, y: u32, x0: u8, y0: u32) -> u32
 // Each value becomes the slope from the point (x₀, y₀) to the point of its word's part and itself.
 fn slopes(x0: u8, y0: u32, words: &[PartWord], values: &mut [u32])
     requires long { ⌜ length (now words) ≡ length (now values) ⌝ }
-    requires first { ⌜ x0 ≤ 250 ⌝ ∗ ⌜ y0 < p ⌝ }
-    requires apart { ⌜ ((k : ℕ) → k < length (now words) → (partAt (now words) k ≤ 250) × (partAt (now words) k ≡ x0 → ⊥)) ⌝ }
+    requires first { ⌜ x0 < 251 ⌝ ∗ ⌜ y0 < p ⌝ }
+    requires apart { ⌜ ((k : ℕ) → k < length (now words) → (partAt (now words) k < 251) × (partAt (now words) k ≡ x0 → ⊥)) ⌝ }
     requires reduced { ⌜ Reduced (now values) ⌝ }
     ensures reduced { λ _. ⌜ Reduced (now (values .exit)) ⌝ }
     ensures slopes { λ _. ⌜ ((k : ℕ) → k < length (now (words .entry)) → Slope (partAt (now (words .entry)) k) (getD (now (values .entry)) k 0) x0 y0 (getD (now (values .exit)) k 0)) ⌝ }

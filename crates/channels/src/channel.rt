@@ -1,0 +1,25 @@
+// A channel: how a frame is cut, how long plans are, and how many others may speak in the same frame.
+// Its methods stand in `make`, apart from the struct, whose facts they use.
+ghost use Prim.Native.Nat.{_*_, _-_, _<_, _^_, _≤_};
+ghost use Rattle.channels.specs.Valid.{isValid};
+ghost use lib.Dec.{T};
+
+mod make;
+
+#[derive(Clone, Copy, PartialEq, Eq, Debug)]
+pub struct Channel {
+    // Parts of a frame, and slots of a part.
+    q: u8,
+    // Digits of a plan.
+    d: u8,
+    // Others that may speak in the same frame.
+    k: u8,
+    // All that makes it a channel, and what follows of it, for the crates above.
+    ghost valid: { T (isValid q d k) },
+    ghost wide: { 2 < q },
+    ghost narrow: { q < 252 },
+    ghost some: { 0 < d },
+    ghost few: { d ≤ 4 },
+    ghost spare: { k * (d - 1) < q },
+    ghost held: { q ^ d ≤ 65536 },
+}

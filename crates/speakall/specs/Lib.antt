@@ -3,3 +3,4 @@ pub mod Plan
 pub mod Frame
 pub mod Promise
 pub mod Code
+pub mod Example

@@ -3,3 +3,4 @@ mod Horner
 mod Table
 mod Points
 mod Sound
+mod Left

@@ -4,16 +4,19 @@ use mathlib.Core.Path.{_≡_, refl, sym, ap, _∙_}
 use mathlib.Core.Logic.{⊎-elim}
 use mathlib.Core.List.{List, [], _∷_, append-nil}
 use Prim.Native.Nat.{ℕ, zero, suc, _+_, _-_, _*_, _%_, _<_, _≤_}
-use Rattle.messages.specs.Heard.{Product, Reduced, Slope, partAt}
-use Rattle.messages.specs.declared.PartWord.{PartWord}
+use Rattle.messages.proofs.Sound.{value-at, valueAt}
+use Rattle.messages.specs.Heard.{Product, Reduced, Slope, partAt, wordsIn}
+use Rattle.messages.specs.declared.words.PartWord.{PartWord}
 use Rattle.speakall.proofs.Modulo.{add-cong, mul-cong, mul-mod-mod}
 use Rattle.speakall.proofs.Polynomial.{slotAt-lt, wordAt-is}
-use Rattle.speakall.specs.Frame.{p, wordAt}
+use Rattle.speakall.specs.Code.{soundIn}
+use Rattle.speakall.specs.Frame.{agrees, p, wordAt}
 use Rattle.std.proofs.shelf.Lists.{drop-all, getD-drop, getD-past, getD-set-same, getD-set-other}
 use Rattle.std.proofs.shelf.Tests.{cases-lt, cases-eq}
 use borrow.Rule.Slice.PartMut.{putMid}
-use lib.Dec.{lit<}
+use lib.Dec.{T, eqb-refl, lit<}
 use lib.ListN.{length, getD, drop, set}
+use mir.Facts.{yes-and}
 use native.Mathlib.Nat.{mod-add-mod, mul-zero}
 use native.Mathlib.Omega.{arith}
 
@@ -120,3 +123,13 @@ through-more ws left ys rest zs g f e d l lt r slopes through product = go ws ys
     go (w ∷ ws) (y ∷ ys) l r slopes through product zero h = at-first (w .part) y f g (r 0) product
     go (w ∷ ws) (y ∷ ys) l r slopes through product (suc k) h =
         at-other (partAt ws k) (getD ys k 0) (w .part) y f g (r (suc k)) product (rw (through k (omega arith)) (slopes k (omega arith)))
+
+-- the values of sound words
+pub reduced-values : (q i : ℕ) (ws : List PartWord) (ys : List ℕ) → length ws ≡ length ys → T (soundIn q (wordsIn ws)) → length ys ≤ i → ((k : ℕ) → k < i → getD ys k 0 ≡ valueAt ws k) → Reduced ys
+reduced-values q i ws ys l s le filled k = ⊎-elim (λ (lt : k < length ys). rw (filled k (omega arith)) (value-at q ws k s (omega arith))) (
+    λ (past : length ys ≤ k). rw (getD-past ys k 0 past) (lit< tt)) (cases-lt k (length ys))
+
+pub agrees-values : (f : List ℕ) (ws : List PartWord) → ((k : ℕ) → k < length ws → wordAt f (partAt ws k) ≡ valueAt ws k) → T (agrees f (wordsIn ws))
+unfolding agrees
+agrees-values f [] h = tt
+agrees-values f (w ∷ ws) h = yes-and _ _ (rw (h 0 (omega arith)) (eqb-refl (w .value))) (agrees-values f ws (λ k lt. h (suc k) (omega arith)))

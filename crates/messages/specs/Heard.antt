@@ -5,7 +5,7 @@ use mathlib.Core.List.{List, map}
 use Prim.Native.Nat.{ℕ, _+_, _*_, _%_, _<_}
 use lib.ListN.{getD}
 use Rattle.speakall.specs.Frame.{p, Word, wordAt}
-use Rattle.messages.specs.declared.PartWord.{PartWord}
+use Rattle.messages.specs.declared.words.PartWord.{PartWord}
 
 abbrev wordOf : PartWord → Word
 wordOf w = record { part = w .part; word = w .value }

@@ -1,40 +1,16 @@
 // Messages as words: what a sender says of its message in each part, and what a listener makes of the words heard of one sender.
-// A message is the coefficients of a polynomial, the constant first; the word of a part is the polynomial's value there, modulo the prime P.
-ghost use Prim.Native.Nat.{ℕ, _<_};
-ghost use Rattle.speakall.specs.Frame.{wordAt};
-ghost use lib.ListN.{length, getD};
-ghost use mathlib.Core.Path.{_≡_};
+// A message is s numbers below 2^30, the coefficients of a polynomial, the constant first; all is worked out modulo the prime P.
+mod checks;
+mod inverses;
+mod listen;
+mod through;
+mod words;
 
-// A word heard of a sender, with the part of the frame in which it was heard.
-#[derive(Clone, Copy)]
-pub struct PartWord {
-    pub part: u8,
-    pub value: u32,
-}
+pub use listen::Reading;
+pub use listen::read;
+pub use words::PartWord;
+pub use words::word_at;
+pub use words::words_of;
 
 // Words are numbers modulo this prime, 2^31 - 1.
-mod inverses;
-mod through;
-
 const P: u64 = 2_147_483_647;
-
-// The word of a message in a part, in O(s) products: from the highest coefficient down.
-pub fn word_at(message: &[u32], part: usize) -> u32
-    ensures { λ r. ⌜ r ≡ wordAt (now (message .entry)) part ⌝ }
-{
-    let x = part as u64 % P;
-    let mut value = 0;
-    for i in (0..message.len()).rev() {
-        value = (message[i] as u64 + x * value) % P;
-    }
-    value as u32
-}
-
-// The words of the parts 0, 1, .., one for each place of the lent slice.
-pub fn words_of(message: &[u32], words: &mut [u32])
-    ensures { λ _. ⌜ ((x : ℕ) → x < length (now (words .exit)) → getD (now (words .exit)) x 0 ≡ wordAt (now (message .entry)) x) ⌝ }
-{
-    for (part, word) in words.iter_mut().enumerate() {
-        *word = word_at(message, part);
-    }
-}

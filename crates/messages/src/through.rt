@@ -3,14 +3,14 @@
 ghost use Prim.Native.Nat.{ℕ, _<_};
 ghost use Rattle.messages.specs.Heard.{Product, Reduced, Slope, partAt, wordsIn};
 ghost use Rattle.speakall.specs.Code.{soundIn};
-ghost use Rattle.speakall.specs.Frame.{p, wordAt};
+ghost use Rattle.speakall.specs.Frame.{agrees, p, wordAt};
 ghost use lib.Dec.{T};
 ghost use lib.ListN.{length, getD, drop};
 ghost use mathlib.Core.Path.{_≡_};
 
 use crate::P;
-use crate::PartWord;
 use crate::inverses::inverse_of_difference;
+use crate::words::PartWord;
 
 // The slope (y - y₀) / (x - x₀) from one point to another.
 fn slope(x: u8, y: u32, x0: u8, y0: u32) -> u32
@@ -63,4 +63,17 @@ fn through(words: &[PartWord], values: &mut [u32])
     slopes(first.part, start, left, rest);
     through(left, rest);
     times(first.part, values);
+}
+
+// The values become the coefficients of the polynomial on which the words lie.
+pub fn interpolate(words: &[PartWord], values: &mut [u32])
+    requires long { ⌜ length (now words) ≡ length (now values) ⌝ }
+    requires sound { ⌜ T (soundIn 251 (wordsIn (now words))) ⌝ }
+    ensures reduced { λ _. ⌜ Reduced (now (values .exit)) ⌝ }
+    ensures agrees { λ _. ⌜ T (agrees (now (values .exit)) (wordsIn (now (words .entry)))) ⌝ }
+{
+    for i in 0..values.len() {
+        values[i] = words[i].value;
+    }
+    through(words, values);
 }

@@ -1,7 +1,7 @@
 -- The loop starts at no coefficient, and ends at all.
 use borrow.Author.Needs.{needs}
 use Rattle.messages.proofs.Horner.{wordAt-none, wordAt-more, wordAt-all}
-use Rattle.messages.proofs.word_at.Needs as need
+use Rattle.messages.proofs.words.word_at.Needs as need
 
 pub loop-i-holds : need.loop-i-holds
 loop-i-holds c = search (needs, wordAt-none)

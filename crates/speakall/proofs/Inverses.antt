@@ -40,7 +40,7 @@ one-inverts q (s ∷ ss) h a = ⊎-elim (λ (e : T (eqb q s)). rw (eqb→eq q s 
 pub side-units : (q : ℕ) → T (listed q sides) → Units q q
 side-units q h t pos lt = units (λ t. t ^ (q - 2)) q (q - 1) (one-inverts q sides h sides-invert) t pos (omega arith)
 
--- the inverse of a modulo p, if j is above it: p * i + 1 is a multiple of a for some i below a
+-- (p * i + 1) / a for an i below the second number with which p * i + 1 is a multiple of a: an inverse of a modulo p
 dividing : ℕ → ℕ → ℕ
 dividing a zero = 0
 dividing a (suc i) = cond (eqb ((p * i + 1) % a) 0) ((p * i + 1) / a) (dividing a i)

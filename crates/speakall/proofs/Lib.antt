@@ -1,4 +1,5 @@
 -- Lemmas and proofs of the statements.
+pub mod Members
 pub mod Modulo
 pub mod Polynomial
 pub mod Inverses
@@ -6,4 +7,8 @@ pub mod Meet
 pub mod Pigeonhole
 pub mod Limit
 pub mod Reached
+pub mod Words
+pub mod Heard
+pub mod Alone
+pub mod Whole
 pub mod Example

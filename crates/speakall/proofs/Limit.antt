@@ -1,10 +1,10 @@
 -- Tables that meet in at most d - 1 parts, each two of them, are at most q^d many (no-more).
 -- Idea: the first d slots of a table are a number below q^d (`code`); tables with one number have one slot in d parts, so different tables have
 -- different numbers, and those are at most q^d many.
-use mathlib.Core.Path.{_≡_, refl, sym, ap, _∙_}
-use mathlib.Core.List.{List, [], _∷_, List·Memᴰ, List·Memᴰ·head, List·Memᴰ·tail}
+use mathlib.Core.Path.{_≡_, sym, ap, _∙_}
+use mathlib.Core.List.{List, [], _∷_}
 use mathlib.Core.Logic.{⊎-elim}
-use Prim.Native.Nat.{ℕ, zero, suc, _+_, _*_, _<_, _≤_, _/_, _%_, _^_, _-_}
+use Prim.Native.Nat.{ℕ, zero, suc, _+_, _*_, _<_, _≤_, _/_, _%_, _^_}
 use native.Mathlib.Nat.{pow-zero, pow-suc}
 use native.Mathlib.Omega.{arith}
 use lib.Arith.{digits-lt, digits-div, digits-mod}
@@ -12,8 +12,9 @@ use lib.Dec.{T, ltb→lt}
 use lib.ListN.{length, getD}
 use mir.Facts.{and-yes}
 use Rattle.std.proofs.shelf.Tests.{cases-lt, cases-eq, eq-eqb}
-use Rattle.speakall.specs.Plan.{Channel, below}
-use Rattle.speakall.specs.Promise.{meet, Table, IsTable, NoMore}
+use Rattle.speakall.specs.Plan.{below}
+use Rattle.speakall.specs.Promise.{meet, NoMore}
+use Rattle.speakall.proofs.Members.{mem-getD}
 use Rattle.speakall.proofs.Pigeonhole.{pigeonhole}
 
 -- the first n slots of a table as a number to the base q
@@ -43,11 +44,6 @@ unfolding meet
 le-meet q f g d zero h e = h
 le-meet q f g d (suc n) h e = ⊎-elim (λ (l : n < d). rw (eq-eqb (f n) (g n) (e n l)) (let r = le-meet q f g n n (omega arith) (λ x k. e x (omega arith)) in omega arith)) (
     λ (l : d ≤ n). let r = le-meet q f g d n l e in omega arith) (cases-lt n d)
-
-mem-getD : {A : Type 0} (xs : List A) (i : ℕ) (d : A) → i < length xs → List·Memᴰ (getD xs i d) xs
-mem-getD [] i d h = absurd (omega arith)
-mem-getD (x ∷ xs) zero d h = List·Memᴰ·head refl
-mem-getD (x ∷ xs) (suc i) d h = List·Memᴰ·tail (mem-getD xs i d (omega arith))
 
 below-getD : (q : ℕ) (t : List ℕ) (x : ℕ) → T (below q t) → x < length t → getD t x 0 < q
 unfolding below

@@ -11,7 +11,7 @@ use lib.ListN.{length}
 use Rattle.std.specs.shelf.Lists.{All}
 use Rattle.std.proofs.shelf.Elements.{all-weaker}
 use Rattle.std.proofs.shelf.Tests.{cond-both, cases-lt, eqb-true}
-use Rattle.speakall.specs.Plan.{Channel, Plan, slotAt, below}
+use Rattle.speakall.specs.Plan.{Plan, slotAt, below}
 use Rattle.speakall.specs.Promise.{meet, SeldomMeet}
 use Rattle.speakall.proofs.Modulo.{Units}
 use Rattle.speakall.proofs.Polynomial.{Spread, gaps-from-units, agree-equal}

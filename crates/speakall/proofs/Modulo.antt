@@ -1,6 +1,6 @@
 -- Congruences modulo m, each written x % m ≡ y % m, with no subtraction.
 -- A product by its remainders (mul-mod-mod); sums, products and what can be cancelled (add-cong, mul-cong, cancel);
--- that two numbers have a difference with an inverse modulo m, without a difference (Gap, gap-sym, gap-from-units).
+-- that two numbers have a difference with an inverse modulo m, said by products (Gap, gap-sym), as different numbers below n have if 1 to n - 1 have inverses (Units, gap-from-units).
 -- Idea: m * (c / m) is a multiple of m, and (m - 1) * c undoes the sum with c.
 use mathlib.Core.Path.{_≡_, refl, sym, ap, _∙_}
 use mathlib.Core.Logic.{⊎-elim}

@@ -1,11 +1,11 @@
--- Polynomials modulo m as the lists of their coefficients, and slotAt m f x as the value of f at x.
--- The remainder after division by a point (divided), values below m (slotAt-lt), and the key lemma: two polynomials of n coefficients below m
--- that agree at n points, each two of whose differences have inverses modulo m, are equal (agree-equal). Different points below n are such, if 1 to n - 1 have inverses (Spread, gaps-from-units). Words are values modulo p (wordAt-is).
+-- Polynomials modulo m as the lists of their coefficients, with slotAt m f x as the value of f at x; words are such values modulo p (wordAt-is).
+-- The key lemma, agree-equal: two polynomials of n coefficients below m that agree at n points or more, each two of whose differences have inverses modulo m (Gaps), are equal.
+-- Also the remainder after division by a point (divided), values below m (slotAt-lt), and that different points below n do, if 1 to n - 1 have inverses (Spread, gaps-from-units).
 -- Idea: recursion on the points. The quotient of f by a point a is the list of the values at a of f's tails (`tails`);
 -- the quotients agree at the other points, and f can be told from its quotient and its value at a.
 use mathlib.Core.Path.{_≡_, refl, sym, ap, _∙_}
 use mathlib.Core.List.{List, [], _∷_}
-use Prim.Native.Nat.{ℕ, zero, suc, _+_, _*_, _<_, _≤_, _%_}
+use Prim.Native.Nat.{ℕ, suc, _+_, _*_, _<_, _≤_, _%_}
 use native.Mathlib.Nat.{mod-lt, mod-eq-of-lt, mod-add-mod, mul-zero}
 use native.Mathlib.Omega.{arith}
 use lib.Dec.{T, ltb→lt, lt→ltb}
@@ -48,16 +48,9 @@ divided m a x c (d ∷ ds) = step m a x c (slotAt m (d ∷ ds) x) (slotAt m (d �
 -- quotients agree where the polynomials do: from y + a * r ≡ z + x * r and the same with t, as x - a has an inverse
 quotients : (m a x y z r t : ℕ) → Gap m x a → (y + a * r) % m ≡ (z + x * r) % m → (y + a * t) % m ≡ (z + x * t) % m → r % m ≡ t % m
 quotients m a x y z r t (v, e) er et =
-    sym (cancel m t r (v * (a * r + a * t + y + z)) (
-    same-cong m (omega arith) ∙
-    add-cong m (v * (y + a * r) + v * z) (v * (z + x * r) + v * z) (t * (a * v + 1)) (t * (x * v)) (
-    add-cong m (v * (y + a * r)) (v * (z + x * r)) (v * z) (v * z) (mul-cong m v (y + a * r) (z + x * r) er) refl) (
-    sym (mul-cong m t (x * v) (a * v + 1) e)) ∙
-    same-cong m (omega arith) ∙
-    add-cong m (v * z + r * (x * v)) (v * z + r * (a * v + 1)) (v * (z + x * t)) (v * (y + a * t)) (
-    add-cong m (v * z) (v * z) (r * (x * v)) (r * (a * v + 1)) refl (mul-cong m r (x * v) (a * v + 1) e)) (
-    sym (mul-cong m v (y + a * t) (z + x * t) et)) ∙
-    same-cong m (omega arith)))
+    let one = add-cong m (v * (y + a * r)) (v * (z + x * r)) (t * (a * v + 1)) (t * (x * v)) (mul-cong m v (y + a * r) (z + x * r) er) (sym (mul-cong m t (x * v) (a * v + 1) e)) in
+    let two = add-cong m (r * (x * v)) (r * (a * v + 1)) (v * (z + x * t)) (v * (y + a * t)) (mul-cong m r (x * v) (a * v + 1) e) (sym (mul-cong m v (y + a * t) (z + x * t) et)) in
+    sym (cancel m t r (v * (a * r + a * t + y)) (same-cong m (omega arith) ∙ one ∙ same-cong m (omega arith) ∙ two ∙ same-cong m (omega arith)))
 
 -- the first coefficient is told by the others and a value
 first : (m a c e v : ℕ) → c < m → e < m → (c + a * v) % m ≡ (e + a * v) % m → c ≡ e
@@ -104,6 +97,7 @@ carried m a c d cs ds (x ∷ ps) pos e (gap, gaps) (at, ag) = (
   carried m a c d cs ds ps pos e gaps ag,
 )
 
+-- THE KEY LEMMA
 pub agree-equal : (m : ℕ) (ps f g : List ℕ) → 0 < m → Gaps m ps → length f ≡ length g → length f ≤ length ps → T (below m f) → T (below m g) → Agree m f g ps → f ≡ g
 agree-equal m [] [] [] pos gaps e h bf bg ag = refl
 agree-equal m [] [] (d ∷ ds) pos gaps e h bf bg ag = absurd (omega arith)

@@ -2,10 +2,9 @@
 -- Idea: a number below q^d is told by its d digits, so different senders have different plans, which seldom meet;
 -- `tables` and `tableOf` are lists made from functions of the place.
 use mathlib.Core.Path.{_≡_, refl, sym, ap, ap₂, _∙_}
-use mathlib.Core.List.{List, [], _∷_, _++_, map, List·Memᴰ, List·Memᴰ·cases-cons}
-use mathlib.Core.Logic.{⊎-elim}
+use mathlib.Core.List.{List, [], _∷_, _++_, map}
 use mathlib.Core.Bool.{cond}
-use Prim.Native.Nat.{ℕ, zero, suc, _+_, _*_, _<_, _≤_, _/_, _%_, _^_, _-_}
+use Prim.Native.Nat.{ℕ, zero, suc, _+_, _*_, _<_, _/_, _%_, _^_}
 use native.Mathlib.Nat.{pow-zero, pow-suc, mod-lt, mod-add-div, div-lt-iff-lt-mul}
 use native.Mathlib.Numerals.{add-one}
 use native.Mathlib.Omega.{arith}
@@ -13,11 +12,11 @@ use lib.Dec.{eqb, T, lt→ltb}
 use lib.ListN.{length, getD}
 use mir.Facts.{yes-and}
 use Rattle.std.specs.Iters.{counting}
-use Rattle.std.specs.shelf.Lists.{All}
 use Rattle.std.proofs.shelf.Counted.{length-map-counting, getD-map-counting, map-counting-more}
 use Rattle.std.proofs.shelf.Elements.{all-from-getD}
-use Rattle.speakall.specs.Plan.{Channel, Good, Plan, IsPlan, slotAt, below, digits, planOf}
-use Rattle.speakall.specs.Promise.{meet, Table, IsTable, tableOf, tables, Seldom, Reached}
+use Rattle.speakall.specs.Plan.{Channel, Plan, IsPlan, slotAt, below, digits, planOf}
+use Rattle.speakall.specs.Promise.{meet, IsTable, tableOf, tables, Reached}
+use Rattle.speakall.proofs.Members.{all-mem}
 use Rattle.speakall.proofs.Polynomial.{slotAt-lt}
 use Rattle.speakall.proofs.Meet.{seldom-meet}
 
@@ -78,10 +77,6 @@ tableOf-table : (c : Channel) (f : Plan) → 0 < c .q → IsTable c (tableOf (c 
 tableOf-table c f pos =
     let len = length-tableOf (c .q) f (c .q) in
     (len, below-from-getD (c .q) (tableOf (c .q) f (c .q)) (λ x h. rw (getD-tableOf (c .q) f (c .q) x (omega arith)) (slotAt-lt (c .q) f x pos)))
-
-all-mem : {X : Type 0} (P : X → Type 0) (xs : List X) (x : X) → All P xs → List·Memᴰ x xs → P x
-all-mem P [] x a m = elim m [ ]
-all-mem P (y ∷ ys) x (py, a) m = ⊎-elim (λ (e : x ≡ y). rw e py) (λ (m : List·Memᴰ x ys). all-mem P ys x a m) (List·Memᴰ·cases-cons m)
 
 meet-cong : (q : ℕ) (f g s t : ℕ → ℕ) (n : ℕ) → ((x : ℕ) → x < n → f x ≡ s x) → ((x : ℕ) → x < n → g x ≡ t x) → meet q f g n ≡ meet q s t n
 unfolding meet

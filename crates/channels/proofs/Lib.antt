@@ -1,5 +1,5 @@
 -- Lemmas of channels and plans, for the contracts here and for the crates above.
 pub mod Listed
 pub mod Facts
-pub mod Inverses
+pub mod Entries
 pub mod Digits

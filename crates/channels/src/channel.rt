@@ -1,8 +1,9 @@
 // A channel: how a frame is cut, how long plans are, and how many others may speak in the same frame.
-// Its methods stand in `make`, apart from the struct, whose facts they use.
+// How it is made, and its sizes, stand in `make`, apart from the struct, whose facts they use.
 ghost use Prim.Native.Nat.{_*_, _-_, _<_, _^_, _≤_};
 ghost use Rattle.channels.specs.Valid.{isValid};
 ghost use lib.Dec.{T};
+ghost use mathlib.Core.Path.{_≡_};
 
 mod make;
 
@@ -22,4 +23,27 @@ pub struct Channel {
     ghost few: { d ≤ 4 },
     ghost spare: { k * (d - 1) < q },
     ghost held: { q ^ d ≤ 65536 },
+}
+
+impl Channel {
+    // The parts of a frame, and the slots of each part: q.
+    pub fn parts(self) -> u8
+        ensures { λ r. ⌜ r ≡ self .q ⌝ }
+    {
+        self.q
+    }
+
+    // The digits of a plan: d.
+    pub fn digits(self) -> u8
+        ensures { λ r. ⌜ r ≡ self .d ⌝ }
+    {
+        self.d
+    }
+
+    // How many others may speak in the same frame: k.
+    pub fn others(self) -> u8
+        ensures { λ r. ⌜ r ≡ self .k ⌝ }
+    {
+        self.k
+    }
 }

@@ -2,6 +2,7 @@
 // A frame of a channel has q parts, numbered from 0, each with q slots, numbered from 0.
 pub mod channel;
 pub mod fault;
+pub mod inverses;
 pub mod plan;
 pub mod table;
 

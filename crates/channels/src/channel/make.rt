@@ -11,6 +11,7 @@ ghost use mathlib.Core.Bool.{true};
 ghost use mathlib.Core.Path.{_≡_};
 use super::Channel;
 use crate::fault::Fault;
+use crate::inverses;
 use crate::table;
 
 // Whether q is one of these numbers.
@@ -67,32 +68,11 @@ impl Channel {
         }
     }
 
-    // The parts of a frame, and the slots of each part: q.
-    pub fn parts(self) -> u8
-        ensures { λ r. ⌜ r ≡ settings self .q ⌝ }
-    {
-        self.q
-    }
-
     // The slots of a frame: q times q.
     pub fn slots(self) -> u32
         ensures { λ r. ⌜ r ≡ settings self .q * settings self .q ⌝ }
     {
         u32::from(self.q) * u32::from(self.q)
-    }
-
-    // The digits of a plan: d.
-    pub fn digits(self) -> u8
-        ensures { λ r. ⌜ r ≡ settings self .d ⌝ }
-    {
-        self.d
-    }
-
-    // How many others may speak in the same frame: k.
-    pub fn others(self) -> u8
-        ensures { λ r. ⌜ r ≡ settings self .k ⌝ }
-    {
-        self.k
     }
 
     // How many senders there are: q to the power d.
@@ -116,6 +96,6 @@ impl Channel {
         if a == 0 || a >= self.q {
             return None;
         }
-        look_up(self.q, a, table::sides(), table::inverses())
+        look_up(self.q, a, table::sides(), inverses::inverses())
     }
 }

@@ -4,7 +4,7 @@ use native.Mathlib.Omega.{arith}
 use Rattle.std.proofs.shelf.Tests.{both-ways}
 use Rattle.speakall.specs.Plan.{listed}
 use Rattle.channels.proofs.Listed.{listed-more, listed-none}
-use Rattle.channels.proofs.Inverses.{rows-long, rows-entry, rows-more}
+use Rattle.channels.proofs.Entries.{rows-long, rows-entry, rows-more}
 use Rattle.channels.proofs.channel.make.look_up.Needs as need
 
 pub index-inverses-start : need.index-inverses-start

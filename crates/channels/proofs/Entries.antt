@@ -13,7 +13,6 @@ use Rattle.std.proofs.shelf.Tests.{and-parts, ltb-true, eqb-true}
 use Rattle.channels.specs.Rows.{Inverse, row, rows}
 
 row-entry : (q a : ℕ) (vs : List ℕ) → row q a vs ≡ true → (i : ℕ) → i < length vs → Inverse q (a + i) (getD vs i 0)
-unfolding row
 row-entry q a [] t i h = absurd (omega arith)
 row-entry q a (v ∷ vs) t zero h =
     let x = and-parts (ltb v q && eqb ((a * v) % q) 1) (row q (suc a) vs) t in
@@ -26,7 +25,6 @@ row-entry q a (v ∷ vs) t (suc i) h =
 
 module _ (qs vs : List ℕ) (i n q : ℕ) (h : i < length qs) (e : q ≡ getD qs i 0) (t : rows (drop i qs) (drop n vs) ≡ true) where
   at-row : (eqb (length (take (q - 1) (drop n vs))) (q - 1) && row q 1 (take (q - 1) (drop n vs)) && rows (drop (i + 1) qs) (drop (q - 1) (drop n vs))) ≡ true
-  unfolding rows
   at-row = subst (λ (x : ℕ). (eqb (length (take (x - 1) (drop n vs))) (x - 1) && row x 1 (take (x - 1) (drop n vs)) && rows (drop (i + 1) qs) (drop (x - 1) (drop n vs))) ≡ true) (sym e)
       (sym (at-drop-more (λ l. rows l (drop n vs)) qs i 0 h) ∙ t)
 

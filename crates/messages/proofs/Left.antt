@@ -35,7 +35,6 @@ pub below-all : (n : ℕ) (vs : List ℕ) (i : ℕ) → length vs ≤ i → belo
 unfolding below
 below-all n vs i h e = sym (at-drop-all (below n) vs i h) ∙ e
 
-
 module _ (m : List ℕ) (ws : List PartWord) (i r : ℕ) (h : i < length ws) (e : agrees m (wordsIn (drop i ws)) ≡ agrees m (wordsIn ws)) (is : r ≡ wordAt m (partAt ws i)) where
   pub agrees-more : r ≡ valueAt ws i → agrees m (wordsIn (drop (i + 1) ws)) ≡ agrees m (wordsIn ws)
   unfolding agrees

@@ -4,3 +4,4 @@ mod Table
 mod Points
 mod Sound
 mod Left
+mod Listening

@@ -35,8 +35,10 @@ placed-more R xs ys i n v h e done same r = (λ k lt. ⊎-elim (at k) (before k 
   where
     at : (k : ℕ) → k ≡ i → R k (getD (set xs i v) k 0)
     at k f = rw (f, getD-set-same xs i v 0 h) r
+
     before : (k : ℕ) → k < n → (k ≡ i → ⊥) → R k (getD (set xs i v) k 0)
     before k lt ne = rw (getD-set-other xs i k v 0 ne) (done k (omega arith))
+
     after : (k : ℕ) → n ≤ k → getD (set xs i v) k 0 ≡ getD ys k 0
     after k le = let ne : k ≡ i → ⊥ = λ f. omega arith in rw (getD-set-other xs i k v 0 ne) (same k (omega arith))
 
@@ -73,7 +75,7 @@ joined a n x y z u f s = let b = ap (λ (t : ℕ). t * z) s in omega arith
 turn : (a n x y z u f : ℕ) → a + n ≡ p → (f + a * u) % p ≡ (z + x * u) % p → (((y + n * z) % p + x * f) % p + a * ((z + x * u) % p)) % p ≡ (y + x * ((z + x * u) % p)) % p
 turn a n x y z u f s e =
     opened (((y + n * z) % p + x * f) % p) a (z + x * u) ∙ mod-add-mod ((y + n * z) % p + x * f) p (a * (z + x * u)) ∙ joined a n x y z u f s ∙
-        add-cong p y y (x * (f + a * u)) (x * (z + x * u)) refl (mul-cong p x (f + a * u) (z + x * u) e) ∙ sym (opened y x (z + x * u))
+    add-cong p y y (x * (f + a * u)) (x * (z + x * u)) refl (mul-cong p x (f + a * u) (z + x * u) e) ∙ sym (opened y x (z + x * u))
 
 wordAt-lt : (f : List ℕ) (x : ℕ) → wordAt f x < p
 wordAt-lt f x = rw (wordAt-is f x) (slotAt-lt p f x (lit< tt))

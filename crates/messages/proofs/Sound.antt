@@ -11,9 +11,9 @@ use Rattle.speakall.specs.Code.{hasPart, soundIn}
 use Rattle.speakall.specs.Frame.{p, Word}
 use Rattle.std.proofs.shelf.Lists.{drop-all, drop-more, getD-replicate, getD-set-other, getD-set-same}
 use Rattle.std.proofs.shelf.Tests.{cases-eq, eq-eqb, ne-eqb}
-use lib.Dec.{T, T-not, eqb, eqb-refl, ltb, ltb→lt}
-use lib.ListN.{length, getD, drop, replicate, set}
-use mir.Facts.{and-yes, or-no}
+use lib.Dec.{T, T-not, eqb, eqb-refl, lt→ltb, ltb, ltb→lt}
+use lib.ListN.{length, getD, drop, replicate, set, take}
+use mir.Facts.{and-yes, or-no, yes-and}
 use native.Mathlib.Omega.{arith}
 
 abbrev pub valueAt : List PartWord → ℕ → ℕ
@@ -73,6 +73,26 @@ sound-none q ws = rw (drop-all (length ws) ws (omega arith)) refl
 pub sound-all : (q i : ℕ) (ws : List PartWord) → i ≤ 0 → soundIn q (wordsIn (drop i ws)) ≡ true → true ≡ soundIn q (wordsIn ws)
 sound-all q i ws h e = let z : i ≡ 0 = omega arith in sym (rw z at e)
 
+neither : (a b : Bool) → T (not a) → T (not b) → T (not (a || b))
+neither true b g h = g
+neither false b g h = h
+
+apart-take : (x n : ℕ) (ws : List PartWord) → T (not (hasPart x (wordsIn ws))) → T (not (hasPart x (wordsIn (take n ws))))
+unfolding hasPart
+apart-take x zero ws h = tt
+apart-take x (suc n) [] h = tt
+apart-take x (suc n) (w ∷ ws) h = let parts = or-no _ _ h in neither _ _ (parts .0) (apart-take x n ws (parts .1))
+
+-- the first of sound words are sound, with more parts too
+pub sound-take : (q r n : ℕ) (ws : List PartWord) → q ≤ r → T (soundIn q (wordsIn ws)) → T (soundIn r (wordsIn (take n ws)))
+unfolding soundIn
+sound-take q r zero ws le h = tt
+sound-take q r (suc n) [] le h = tt
+sound-take q r (suc n) (w ∷ ws) le h =
+    let first = sound-cons q _ _ h in
+    let lt : w .part < r = let k = first .1 in omega arith in
+    yes-and _ _ (yes-and _ _ (yes-and _ _ (apart-take (w .part) n ws (first .0)) (lt→ltb _ _ lt)) (lt→ltb _ _ (first .2))) (sound-take q r n ws le (first .3))
+
 -- at i the word before the last ones, which are those from i on
 module _ (ws : List PartWord) (i : ℕ) (pos : 0 < i) (le : i ≤ length ws) where
   back : drop (i - 1) ws ≡ getD ws (i - 1) (record { part = 0; value = 0 }) ∷ drop i ws
@@ -87,12 +107,13 @@ module _ (ws : List PartWord) (i : ℕ) (pos : 0 < i) (le : i ≤ length ws) whe
     where
       here : x ≡ partAt ws (i - 1) → getD (set seen (partAt ws (i - 1)) true) x false ≡ (eqb x (partAt ws (i - 1)) || hasPart x (wordsIn (drop i ws)))
       here e = let f : partAt ws (i - 1) < length seen = omega arith in rw (eq-eqb x (partAt ws (i - 1)) e, e, getD-set-same seen (partAt ws (i - 1)) true false f) refl
+
       other : (x ≡ partAt ws (i - 1) → ⊥) → getD (set seen (partAt ws (i - 1)) true) x false ≡ (eqb x (partAt ws (i - 1)) || hasPart x (wordsIn (drop i ws)))
       other ne = rw (ne-eqb x (partAt ws (i - 1)) ne, getD-set-other seen (partAt ws (i - 1)) x true false ne) (marks x h)
 
   pub sound-more : (q : ℕ) → hasPart (partAt ws (i - 1)) (wordsIn (drop i ws)) ≡ false → true ≡ (ltb (partAt ws (i - 1)) q && ltb (valueAt ws (i - 1)) p) → soundIn q (wordsIn (drop i ws)) ≡ true → soundIn q (wordsIn (drop (i - 1) ws)) ≡ true
   unfolding soundIn
-  sound-more q no both s = rw (back, no, s) (good _ _ both)
+  sound-more q new both s = rw (back, new, s) (good (ltb (partAt ws (i - 1)) q) (ltb (valueAt ws (i - 1)) p) both)
     where
       good : (a b : Bool) → true ≡ (a && b) → (a && b && true) ≡ true
       good true true e = refl
@@ -113,7 +134,7 @@ module _ (ws : List PartWord) (i : ℕ) (pos : 0 < i) (le : i ≤ length ws) whe
 
   pub sound-off : (q : ℕ) → false ≡ (ltb (partAt ws (i - 1)) q && ltb (valueAt ws (i - 1)) p) → false ≡ soundIn q (wordsIn ws)
   unfolding soundIn
-  sound-off q off = fails q (rw back (bad _ _ _ _ off))
+  sound-off q off = fails q (rw back (bad (hasPart (partAt ws (i - 1)) (wordsIn (drop i ws))) (ltb (partAt ws (i - 1)) q) (ltb (valueAt ws (i - 1)) p) (soundIn q (wordsIn (drop i ws))) off))
     where
       bad : (h a b s : Bool) → false ≡ (a && b) → (not h && a && b && s) ≡ false
       bad true a b s e = refl

@@ -6,7 +6,6 @@ ghost use Rattle.speakall.specs.Plan.{below};
 ghost use lib.Dec.{ltb};
 ghost use mathlib.Core.Bool.{_&&_};
 ghost use mathlib.Core.Path.{_≡_};
-
 use crate::P;
 use crate::words::PartWord;
 use crate::words::word_at;
@@ -37,7 +36,7 @@ pub fn is_sound(parts: u8, words: &[PartWord]) -> bool
 }
 
 // Whether all values are numbers of a message.
-pub fn is_message(values: &[u32]) -> bool
+fn is_message(values: &[u32]) -> bool
     ensures { λ r. ⌜ r ≡ below 1073741824 (now (values .entry)) ⌝ }
 {
     for value in values {
@@ -49,7 +48,7 @@ pub fn is_message(values: &[u32]) -> bool
 }
 
 // Whether a message lies on all these words: O(s w) products.
-pub fn is_on(message: &[u32], words: &[PartWord]) -> bool
+fn is_on(message: &[u32], words: &[PartWord]) -> bool
     ensures { λ r. ⌜ r ≡ agrees (now (message .entry)) (wordsIn (now (words .entry))) ⌝ }
 {
     for word in words {
@@ -58,4 +57,11 @@ pub fn is_on(message: &[u32], words: &[PartWord]) -> bool
         }
     }
     true
+}
+
+// Whether these are the numbers of a message, and it lies on all the words.
+pub fn fits(message: &[u32], words: &[PartWord]) -> bool
+    ensures { λ r. ⌜ r ≡ (below 1073741824 (now (message .entry)) && agrees (now (message .entry)) (wordsIn (now (words .entry)))) ⌝ }
+{
+    is_message(message) && is_on(message, words)
 }

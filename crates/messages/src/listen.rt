@@ -1,18 +1,16 @@
 // What a listener makes of the words heard of one sender, whatever they are: it works the message out from the first words, and the others test it.
-ghost use Prim.Native.Nat.{ℕ, _<_};
+ghost use Prim.Native.Nat.{ℕ};
 ghost use Rattle.channels.specs.Settings.{settings};
 ghost use Rattle.messages.specs.Heard.{wordsIn};
 ghost use Rattle.messages.specs.Made.{Cleared, Made, faultOf, readOf};
 ghost use lib.ListN.{length, getD};
 ghost use mathlib.Core.Path.{_≡_};
-
-use channels::Channel;
-use channels::Fault;
-use crate::checks::is_message;
-use crate::checks::is_on;
+use crate::checks::fits;
 use crate::checks::is_sound;
 use crate::through::interpolate;
 use crate::words::PartWord;
+use channels::Channel;
+use channels::Fault;
 
 // What the words of one sender come to.
 #[derive(Clone, Copy, PartialEq, Eq, Debug)]
@@ -60,7 +58,7 @@ pub fn read(channel: Channel, words: &[PartWord], message: &mut [u32]) -> Readin
         return Reading::Doubtful;
     }
     interpolate(&words[0..size], message);
-    if is_message(message) && is_on(message, words) {
+    if fits(message, words) {
         return Reading::Message {
             words: words.len(),
             off: 0,

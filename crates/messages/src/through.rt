@@ -7,7 +7,6 @@ ghost use Rattle.speakall.specs.Frame.{agrees, p, wordAt};
 ghost use lib.Dec.{T};
 ghost use lib.ListN.{length, getD, drop};
 ghost use mathlib.Core.Path.{_≡_};
-
 use crate::P;
 use crate::inverses::inverse_of_difference;
 use crate::words::PartWord;

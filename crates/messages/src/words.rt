@@ -3,7 +3,6 @@ ghost use Prim.Native.Nat.{ℕ, _<_};
 ghost use Rattle.speakall.specs.Frame.{wordAt};
 ghost use lib.ListN.{length, getD};
 ghost use mathlib.Core.Path.{_≡_};
-
 use crate::P;
 
 // A word heard of a sender, with the part of the frame in which it was heard.

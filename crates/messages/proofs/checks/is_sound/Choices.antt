@@ -10,5 +10,5 @@ use Rattle.speakall.specs.Code.{hasPart, soundIn}
 abbrev pub Inv-loop-i : given.InvT-loop-i
 Inv-loop-i l =
     (length (l .seen) ≡ 256) ×
-        ((x : ℕ) → x < 256 → getD (l .seen) x false ≡ hasPart x (wordsIn (drop (l .i) (l .words)))) ×
-        (soundIn (l .parts) (wordsIn (drop (l .i) (l .words))) ≡ true)
+    ((x : ℕ) → x < 256 → getD (l .seen) x false ≡ hasPart x (wordsIn (drop (l .i) (l .words)))) ×
+    (soundIn (l .parts) (wordsIn (drop (l .i) (l .words))) ≡ true)

@@ -1,12 +1,11 @@
 -- A copy of 0 is 0.
-use mathlib.Core.Path.{_≡_, ap, _∙_}
-use Prim.Native.Nat.{ℕ, zero, suc}
-use lib.ListN.{getD, replicate}
-use Rattle.messages.proofs.listen.clear.Needs as need
+use mathlib.Core.Path.{_≡_, refl, ap, _∙_}
 use mathlib.Core.List.{List}
-use mathlib.Core.Path.{refl}
+use Prim.Native.Nat.{ℕ, zero, suc}
+use Rattle.messages.proofs.listen.clear.Needs as need
+use lib.ListN.{getD, replicate}
 
-zeros : (n k : ℕ) → getD (replicate n 0) k 0 ≡ 0
+zeros : (n k : ℕ) → _≡_ {A = ℕ} (getD (replicate n 0) k 0) 0
 zeros zero k = refl
 zeros (suc n) zero = refl
 zeros (suc n) (suc k) = zeros n k

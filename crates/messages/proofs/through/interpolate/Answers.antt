@@ -1,6 +1,7 @@
 -- The values of sound words are reduced, and a polynomial that has them lies on the words.
 use mathlib.Core.Path.{_∙_}
 use borrow.Author.Needs.{needs}
+use native.Mathlib.Omega.{arith}
 use Rattle.messages.proofs.Points.{agrees-values, reduced-values}
 use Rattle.messages.proofs.Sound.{valueAt}
 use Rattle.messages.proofs.through.interpolate.Needs as need
@@ -21,5 +22,5 @@ pub returns : need.returns
 returns c =
     record {
       reduced = c .through .ensures .reduced;
-      agrees = agrees-values _ (c .args .words .now) (λ k lt. c .through .ensures .through k lt ∙ c .loop-i .inv k ?);
+      agrees = agrees-values _ (c .args .words .now) (λ k lt. c .through .ensures .through k lt ∙ c .loop-i .inv k (omega arith));
     }

@@ -20,5 +20,5 @@ loop-i-again c =
     let old = c .args .values .now in
     let i = c .loop-i .i in
     let more = placed-more (λ k v. Slope (partAt (c .args .words .now) k) (getD old k 0) (c .args .x0) (c .args .y0) v) (c .loop-i .values) old i (i + 1) (c .slope .result) (
-        omega arith) refl (c .loop-i .inv .1) (c .loop-i .inv .2) (rw (c .loop-i .inv .2 i (le-refl i)) at (c .slope .ensures .1)) in
+    omega arith) refl (c .loop-i .inv .1) (c .loop-i .inv .2) (rw (c .loop-i .inv .2 i (le-refl i)) at (c .slope .ensures .1)) in
     (reduced-set _ _ _ (c .loop-i .inv .0) (c .slope .ensures .0), more .0, more .1)

@@ -9,5 +9,5 @@ use Rattle.messages.proofs.through.times.Given as given
 abbrev pub Inv-loop-i : given.InvT-loop-i
 Inv-loop-i l =
     Reduced (l .values) ×
-        ((k : ℕ) → k < l .i - 1 → getD (l .values) k 0 ≡ coefficient (l .minus) (l .entry .values) k) ×
-        ((k : ℕ) → l .i - 1 ≤ k → getD (l .values) k 0 ≡ getD (l .entry .values) k 0)
+    ((k : ℕ) → k < l .i - 1 → getD (l .values) k 0 ≡ coefficient (l .minus) (l .entry .values) k) ×
+    ((k : ℕ) → l .i - 1 ≤ k → getD (l .values) k 0 ≡ getD (l .entry .values) k 0)

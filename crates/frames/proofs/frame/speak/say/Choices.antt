@@ -1,0 +1,6 @@
+use Rattle.channels.specs.Plans.{planIn}
+use Rattle.frames.specs.Slots.{Said}
+use Rattle.frames.proofs.frame.speak.say.Given as given
+
+abbrev pub Inv-loop-part : given.InvT-loop-part
+Inv-loop-part l = Said (l .q) (planIn (l .plan)) (l .sender) (l .message) (l .part) (l .entry .slots) (l .slots)

@@ -1,0 +1,46 @@
+-- What is heard in the slots of a frame, in the code's terms and in the statement's.
+-- joined, slotIn, Said, thereIn, slotOf, Hears. Assumes nothing.
+use mathlib.Core.Path.{_≡_}
+use mathlib.Core.Bool.{Bool, true, _&&_}
+use mathlib.Core.List.{List, [], _∷_}
+use Prim.Native.Nat.{ℕ, _+_, _*_, _<_, _≤_}
+use lib.Dec.{ltb}
+use lib.ListN.{length, getD}
+use Rattle.frames.specs.declared.slot.Slot.{Slot}
+use Rattle.frames.specs.declared.slot.Slot.the-variants.{Silence, One, Noise}
+use Rattle.speakall.specs.Frame as statement
+use Rattle.speakall.specs.Plan.{Channel, Plan, planOf, slotAt}
+
+-- one sender more speaks in a slot
+abbrev pub joined : (sender word : ℕ) → Slot → Slot
+joined n w Silence = One n w
+joined n w (One m v) = Noise
+joined n w Noise = Noise
+
+-- what stands in slot y of part x
+abbrev pub slotIn : ℕ → List Slot → (x y : ℕ) → Slot
+slotIn q slots x y = getD slots (x * q + y) Silence
+
+-- a sender with plan f has spoken its message in the parts below n, and in the others the slots are as before
+pub record Said (q : ℕ) (f : Plan) (sender : ℕ) (message : List ℕ) (n : ℕ) (before after : List Slot) : Type 0 where
+  pub long : length after ≡ length before
+  pub own : (x : ℕ) → x < n → slotIn q after x (slotAt q f x) ≡ joined sender (statement.wordAt message x) (slotIn q before x (slotAt q f x))
+  pub others : (x y : ℕ) → x < n → y < q → (slotAt q f x ≡ y → ⊥) → slotIn q after x y ≡ slotIn q before x y
+  pub later : (x y : ℕ) → n ≤ x → y < q → slotIn q after x y ≡ slotIn q before x y
+
+-- only senders below n are heard
+unfoldable pub thereIn : ℕ → List Slot → Bool
+thereIn n [] = true
+thereIn n (Silence ∷ ss) = thereIn n ss
+thereIn n (One m w ∷ ss) = ltb m n && thereIn n ss
+thereIn n (Noise ∷ ss) = thereIn n ss
+
+-- the code's slot as the statement's
+abbrev pub slotOf : Channel → Slot → statement.Slot
+slotOf c Silence = statement.Silence
+slotOf c (One n w) = statement.One (planOf c n) w
+slotOf c Noise = statement.Noise
+
+-- these slots are what is heard when ss speak
+abbrev pub Hears : Channel → List statement.Speaker → List Slot → Type 0
+Hears c ss slots = (x y : ℕ) → x < c .q → y < c .q → slotOf c (slotIn (c .q) slots x y) ≡ statement.heard (c .q) ss x y

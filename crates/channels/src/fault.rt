@@ -1,7 +1,10 @@
 // The causes for which something is refused or not read, each with its number and its text.
 ghost use Rattle.channels.specs.Faults.{causeOf, faultNumber, faultText};
+ghost use Rattle.channels.specs.declared.fault.Fault.the-variants.{Memory};
 ghost use Rattle.std.specs.declared.option.Option.the-variants.{Some};
 ghost use mathlib.Core.Path.{_≡_};
+use std::alloc::AllocError;
+use std::alloc::Refused;
 use std::fmt;
 
 #[derive(Clone, Copy, PartialEq, Eq, Debug)]
@@ -77,5 +80,21 @@ pub impl fmt::Display for Fault as FaultDisplay {
             Some(n) => write!(f, "fault {n}: {cause}"),
             None => write!(f, "{cause}"),
         }
+    }
+}
+
+pub impl From<AllocError> for Fault as FaultFromAlloc {
+    ghost converts = { λ _ r. r ≡ Memory };
+
+    fn from(_e: AllocError) -> Fault {
+        Fault::Memory
+    }
+}
+
+pub impl<T: Drop> From<Refused<T>> for Fault as FaultFromRefused {
+    ghost converts = { λ _ r. r ≡ Memory };
+
+    fn from(_e: Refused<T>) -> Fault {
+        Fault::Memory
     }
 }

@@ -1,2 +1,4 @@
 -- Lemmas of frames.
 pub mod Places
+pub mod There
+pub mod Hearing

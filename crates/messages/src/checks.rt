@@ -36,7 +36,7 @@ pub fn is_sound(parts: u8, words: &[PartWord]) -> bool
 }
 
 // Whether all values are numbers of a message.
-fn is_message(values: &[u32]) -> bool
+pub fn is_message(values: &[u32]) -> bool
     ensures { λ r. ⌜ r ≡ below 1073741824 (now (values .entry)) ⌝ }
 {
     for value in values {

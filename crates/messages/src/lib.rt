@@ -6,6 +6,7 @@ mod listen;
 mod through;
 mod words;
 
+pub use checks::is_message;
 pub use listen::Reading;
 pub use listen::read;
 pub use words::PartWord;

@@ -1,2 +1,4 @@
 -- What the contracts of frames cite.
 pub mod Slots
+pub mod Speakers
+pub mod Heard

@@ -1,5 +1,5 @@
 -- What is heard in the slots of a frame, in the code's terms and in the statement's.
--- joined, slotIn, Said, isThere, thereIn, slotOf, Hears, refusal, speaker, Spoke. Assumes nothing.
+-- joined, ownWord, slotIn, Said, isThere, thereIn, slotOf, Hears, refusal, speaker, Spoke. Assumes nothing.
 use mathlib.Core.Path.{_≡_}
 use mathlib.Core.Bool.{Bool, true, cond, _&&_}
 use mathlib.Core.List.{List, [], _∷_}
@@ -12,6 +12,7 @@ use Rattle.std.specs.declared.option.Option.{Option}
 use Rattle.std.specs.declared.option.Option.the-variants.{Some, None}
 use Rattle.frames.specs.declared.slot.Slot.{Slot}
 use Rattle.frames.specs.declared.slot.Slot.the-variants.{Silence, One, Noise}
+use Rattle.messages.specs.declared.words.PartWord.{PartWord}
 use Rattle.speakall.specs.Frame as statement
 use Rattle.speakall.specs.Plan.{Channel, Plan, below, planOf, size, slotAt}
 
@@ -20,6 +21,12 @@ abbrev pub joined : (sender word : ℕ) → Slot → Slot
 joined n w Silence = One n w
 joined n w (One m v) = Noise
 joined n w Noise = Noise
+
+-- the word of a sender in a slot of part x, if it is alone there
+abbrev pub ownWord : (number x : ℕ) → Slot → Option PartWord
+ownWord n x Silence = None
+ownWord n x (One m w) = cond (eqb m n) (Some (record { part = x; value = w })) None
+ownWord n x Noise = None
 
 -- what stands in slot y of part x
 abbrev pub slotIn : ℕ → List Slot → (x y : ℕ) → Slot

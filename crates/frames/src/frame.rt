@@ -7,7 +7,9 @@ ghost use mathlib.Core.Path.{_≡_};
 use crate::slot::Slot;
 use channels::Channel;
 
+mod hear;
 mod speak;
+mod words;
 
 #[derive(Drop)]
 pub struct Frame {

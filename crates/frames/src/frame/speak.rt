@@ -49,7 +49,7 @@ fn say(q: u8, plan: Plan, sender: u32, message: &[u32], slots: &mut [Slot])
 }
 
 // Why a sender cannot speak on this channel with this message, if it cannot.
-fn refused(channel: Channel, number: u32, message: &[u32]) -> Option<Fault>
+pub fn refused(channel: Channel, number: u32, message: &[u32]) -> Option<Fault>
     ensures { λ r. ⌜ r ≡ refusal (settings channel) number (now (message .entry)) ⌝ }
 {
     if number >= channel.senders() {

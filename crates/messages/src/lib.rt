@@ -2,9 +2,9 @@
 // A message is s numbers below 2^30, the coefficients of a polynomial, the constant first; all is worked out modulo the prime P.
 mod checks;
 mod inverses;
-mod listen;
+pub mod listen;
 mod through;
-mod words;
+pub mod words;
 
 pub use listen::Reading;
 pub use listen::read;

@@ -1,9 +1,10 @@
 -- The value of a polynomial, coefficient by coefficient from the highest: the start, a turn and the end of the loop. The point may be taken modulo p.
-use mathlib.Core.Path.{_≡_, refl, sym, ap, _∙_}
+use mathlib.Core.Path.{_≡_, refl, ap, _∙_}
 use mathlib.Core.List.{List, [], _∷_}
-use Prim.Native.Nat.{ℕ, _+_, _-_, _*_, _/_, _%_, _<_, _≤_}
+use Prim.Native.Nat.{ℕ, _+_, _-_, _*_, _%_, _<_, _≤_}
 use Rattle.speakall.specs.Frame.{p, wordAt}
-use lib.ListN.{length, getD, drop}
+use lib.ListN.{length, getD, drop, set}
+use Rattle.std.proofs.shelf.Edits.{fill-by-more}
 use Rattle.std.proofs.shelf.Lists.{drop-more, drop-all}
 use native.Mathlib.Nat.{mod-add-div}
 use native.Mathlib.Omega.{arith}
@@ -26,3 +27,7 @@ wordAt-mod (a ∷ m) x = let e = ap (λ (z : ℕ). z * wordAt m x) (mod-add-div 
 
 pub wordAt-all : (m : List ℕ) (i x v : ℕ) → i ≤ 0 → v ≡ wordAt (drop i m) (x % p) → v ≡ wordAt m x
 wordAt-all m i x v h e = let z : i ≡ 0 = omega arith in (rw z at e) ∙ wordAt-mod m x
+
+-- one word more is written
+pub words-more : (m ws : List ℕ) (i w : ℕ) → i < length ws → ((x : ℕ) → x < i → getD ws x 0 ≡ wordAt m x) → w ≡ wordAt m i → (x : ℕ) → x < i + 1 → getD (set ws i w) x 0 ≡ wordAt m x
+words-more m ws i w h before e = rw e (fill-by-more (wordAt m) ws i 0 h before)

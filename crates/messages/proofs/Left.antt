@@ -1,7 +1,7 @@
 -- Loops over a list that stop at the first element that fails: the elements left decide, as those passed did not fail.
 use mathlib.Core.Path.{_≡_, refl, sym, ap, _∙_}
 use mathlib.Core.Bool.{Bool, true, false, _&&_}
-use mathlib.Core.List.{List, [], _∷_}
+use mathlib.Core.List.{List, _∷_}
 use Prim.Native.Nat.{ℕ, _+_, _<_, _≤_}
 use Rattle.messages.proofs.Sound.{valueAt}
 use Rattle.messages.specs.Heard.{partAt, wordsIn}

@@ -2,18 +2,18 @@
 use mathlib.Core.Path.{_≡_, refl, sym, ap, subst}
 use mathlib.Core.Bool.{Bool, true, false, _&&_}
 use mathlib.Core.List.{List, [], _∷_}
-use Prim.Native.Nat.{ℕ, zero, suc, _*_, _+_, _<_, _≤_}
+use Prim.Native.Nat.{ℕ, zero, suc, _<_, _≤_}
 use Rattle.messages.proofs.Sound.{sound-take}
 use Rattle.messages.specs.Heard.{Reduced, wordsIn}
 use Rattle.messages.specs.Made.{Fits, Found}
 use Rattle.messages.specs.declared.words.PartWord.{PartWord}
 use Rattle.speakall.proofs.Words.{agrees-off, only-one}
 use Rattle.speakall.specs.Code.{soundIn}
-use Rattle.speakall.specs.Frame.{Word, agrees, p}
+use Rattle.speakall.specs.Frame.{agrees, p}
 use Rattle.speakall.specs.Plan.{below}
 use Rattle.std.proofs.shelf.Lists.{length-take-le}
 use lib.Dec.{T, lit≤, lt→ltb, ltb, ltb→lt}
-use lib.ListN.{length, take}
+use lib.ListN.{length, drop, take}
 use mir.Facts.{and-yes, yes-and}
 use native.Mathlib.Omega.{arith}
 
@@ -34,11 +34,18 @@ unfolding below
 below-reduced [] r = tt
 below-reduced (a ∷ m) r = yes-and _ _ (lt→ltb _ _ (r 0)) (below-reduced m (λ k. r (suc k)))
 
-agrees-take : (m : List ℕ) (n : ℕ) (ws : List PartWord) → T (agrees m (wordsIn ws)) → T (agrees m (wordsIn (take n ws)))
+-- all words are the first ones and the others
+agrees-take : (m : List ℕ) (n : ℕ) (ws : List PartWord) → T (agrees m (wordsIn ws)) → T (agrees m (wordsIn (take n ws))) × T (agrees m (wordsIn (drop n ws)))
 unfolding agrees
-agrees-take m zero ws h = tt
-agrees-take m (suc n) [] h = tt
-agrees-take m (suc n) (w ∷ ws) h = let both = and-yes _ _ h in yes-and _ _ (both .0) (agrees-take m n ws (both .1))
+agrees-take m zero ws h = (tt, h)
+agrees-take m (suc n) [] h = (tt, tt)
+agrees-take m (suc n) (w ∷ ws) h = let both = and-yes _ _ h in let rest = agrees-take m n ws (both .1) in (yes-and _ _ (both .0) (rest .0), rest .1)
+
+agrees-from : (m : List ℕ) (n : ℕ) (ws : List PartWord) → T (agrees m (wordsIn (take n ws))) → T (agrees m (wordsIn (drop n ws))) → T (agrees m (wordsIn ws))
+unfolding agrees
+agrees-from m zero ws g h = h
+agrees-from m (suc n) [] g h = tt
+agrees-from m (suc n) (w ∷ ws) g h = let both = and-yes _ _ g in yes-and _ _ (both .0) (agrees-from m n ws (both .1) h)
 
 pub length-wordsIn : (ws : List PartWord) → length (wordsIn ws) ≡ length ws
 length-wordsIn [] = refl
@@ -49,19 +56,24 @@ same : (q s : ℕ) (ws : List PartWord) (f g : List ℕ) → q < 252 → s ≤ l
 same q s ws f g small le sound lf lg bf bg af ag =
     only-one q small (wordsIn ws) sound s 0 (omega (arith, length-wordsIn ws)) f g lf lg bf bg (omega (arith, agrees-off f (wordsIn ws) af)) (omega (arith, agrees-off g (wordsIn ws) ag))
 
-pub found : (q s : ℕ) (ws : List PartWord) (f : List ℕ) → q < 252 → s ≤ length ws → length f ≡ s → true ≡ soundIn q (wordsIn ws) → true ≡ (below 1073741824 f && agrees f (wordsIn ws)) → Found q s (wordsIn ws) f
-found q s ws f small le l sound fits =
-    let both = and-yes _ _ (from-true _ fits) in
-    let ok = from-true _ sound in
-    record {
-      enough = omega (arith, length-wordsIn ws);
-      sound = ok;
-      fits = record { long = l; small = both .0; on = both .1 };
-      only = λ n ln bn an. same q s ws n f small le ok ln l bn (below-more 1073741824 f (lit≤ tt) (both .0)) an (both .1);
-    }
+-- f goes through the first s of the words, which are sound and enough: on it stands what is read, and whether
+module _ (q s : ℕ) (ws first others : List PartWord) (f : List ℕ) (small : q < 252) (le : s ≤ length ws) (long : length f ≡ s) (ef : first ≡ take s ws) (eo : others ≡ drop s ws) (on : T (agrees f (wordsIn first))) where
+  pub found : true ≡ soundIn q (wordsIn ws) → true ≡ (below 1073741824 f && agrees f (wordsIn others)) → Found q s (wordsIn ws) f
+  found sound fits =
+      let enough : s ≤ length (wordsIn ws) = omega (arith, length-wordsIn ws) in
+      let both = and-yes _ _ (from-true _ fits) in
+      let ok = from-true _ sound in
+      let all = agrees-from f s ws (rw ef at on) (rw eo at (both .1)) in
+      record {
+        enough = enough;
+        sound = ok;
+        fits = record { long = long; small = both .0; on = all };
+        only = λ m lm bm am. same q s ws m f small le ok lm long bm (below-more 1073741824 f (lit≤ tt) (both .0)) am all;
+      }
 
-pub none : (q s t : ℕ) (ws : List PartWord) (f : List ℕ) → q < 252 → s ≤ length ws → length f ≡ s → t ≡ s → Reduced f → T (agrees f (wordsIn (take t ws))) → false ≡ (below 1073741824 f && agrees f (wordsIn ws)) → T (soundIn q (wordsIn ws)) → (m : List ℕ) → Fits s (wordsIn ws) m → ⊥
-none q s t ws f small le l et r a off sound m fits =
-    let e : m ≡ f = same 251 s (take s ws) m f (omega arith) (rw (length-take-le s ws le) (omega arith)) (sound-take q 251 s ws (omega arith) sound) (fits .long) l (
-    below-more 1073741824 m (lit≤ tt) (fits .small)) (below-reduced f r) (agrees-take m s ws (fits .on)) (rw et at a) in
-    not-false _ off (subst (λ (g : List ℕ). T (below 1073741824 g && agrees g (wordsIn ws))) e (yes-and _ _ (fits .small) (fits .on)))
+  pub none : Reduced f → false ≡ (below 1073741824 f && agrees f (wordsIn others)) → T (soundIn q (wordsIn ws)) → (m : List ℕ) → Fits s (wordsIn ws) m → ⊥
+  none reduced off sound m fits =
+      let parts = agrees-take m s ws (fits .on) in
+      let e : m ≡ f = same 251 s (take s ws) m f (omega arith) (rw (length-take-le s ws le) (omega arith)) (sound-take q 251 s ws (omega arith) sound) (fits .long) long (
+      below-more 1073741824 m (lit≤ tt) (fits .small)) (below-reduced f reduced) (parts .0) (rw ef at on) in
+      not-false _ off (rw (← e, eo) (yes-and _ _ (fits .small) (parts .1)))

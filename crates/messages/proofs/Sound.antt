@@ -20,7 +20,7 @@ abbrev pub valueAt : List PartWord → ℕ → ℕ
 valueAt ws k = getD ws k (record { part = 0; value = 0 }) .value
 
 -- what soundIn asks of a first word
-pub sound-cons : (q : ℕ) (w : Word) (ws : List Word) → T (soundIn q (w ∷ ws)) → T (not (hasPart (w .part) ws)) × (w .part < q) × (w .word < p) × T (soundIn q ws)
+sound-cons : (q : ℕ) (w : Word) (ws : List Word) → T (soundIn q (w ∷ ws)) → T (not (hasPart (w .part) ws)) × (w .part < q) × (w .word < p) × T (soundIn q ws)
 unfolding soundIn
 sound-cons q w ws h =
     let a = and-yes _ _ h in

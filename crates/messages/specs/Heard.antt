@@ -1,5 +1,5 @@
 -- The code's words as the words of the statements.
--- wordsIn, partAt, Reduced, Slope, Product. Assumes nothing.
+-- wordOf, wordsIn, partAt, Reduced, Slope, Product. Assumes nothing.
 use mathlib.Core.Path.{_≡_}
 use mathlib.Core.List.{List, map}
 use Prim.Native.Nat.{ℕ, _+_, _*_, _%_, _<_}

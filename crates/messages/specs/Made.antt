@@ -1,5 +1,5 @@
 -- What a listener makes of the words heard of one sender, and what the code says of it.
--- readOf, faultOf, Cleared, IsMessage, Made. Assumes nothing.
+-- readOf, faultOf, Zeros, Cleared, Fits, Found, Made. Assumes nothing.
 use mathlib.Core.Path.{_≡_}
 use mathlib.Core.List.{List}
 use Prim.Native.Nat.{ℕ, _<_, _≤_}
@@ -9,7 +9,6 @@ use Rattle.channels.specs.declared.fault.Fault.{Fault}
 use Rattle.channels.specs.declared.fault.Fault.the-variants as fault
 use Rattle.messages.specs.declared.listen.Reading.{Reading}
 use Rattle.messages.specs.declared.listen.Reading.the-variants.{TooFew, Message, Doubtful}
-use Rattle.speakall.specs.Code as statement
 use Rattle.speakall.specs.Code.{Read, soundIn}
 use Rattle.speakall.specs.Frame.{Word, agrees, p}
 use Rattle.speakall.specs.Plan.{below}
@@ -28,7 +27,7 @@ faultOf (TooFew n) = Some fault.TooFew
 faultOf (Message n o) = None
 faultOf Doubtful = Some fault.Doubtful
 
-abbrev Zeros : List ℕ → Type 0
+abbrev pub Zeros : List ℕ → Type 0
 Zeros left = (k : ℕ) → getD left k 0 ≡ 0
 
 -- where no message was read, the lent memory holds zeros

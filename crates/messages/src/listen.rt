@@ -1,9 +1,8 @@
 // What a listener makes of the words heard of one sender, whatever they are: it works the message out from the first words, and the others test it.
-ghost use Prim.Native.Nat.{ℕ};
 ghost use Rattle.channels.specs.Settings.{settings};
 ghost use Rattle.messages.specs.Heard.{wordsIn};
-ghost use Rattle.messages.specs.Made.{Cleared, Made, faultOf, readOf};
-ghost use lib.ListN.{length, getD};
+ghost use Rattle.messages.specs.Made.{Cleared, Made, Zeros, faultOf, readOf};
+ghost use lib.ListN.{length};
 ghost use mathlib.Core.Path.{_≡_};
 use crate::checks::fits;
 use crate::checks::is_sound;
@@ -38,13 +37,13 @@ impl Reading {
 
 // Makes every number 0.
 fn clear(message: &mut [u32])
-    ensures { λ _. ⌜ ((k : ℕ) → getD (now (message .exit)) k 0 ≡ 0) ⌝ }
+    ensures { λ _. ⌜ Zeros (now (message .exit)) ⌝ }
 {
     message.fill(0);
 }
 
 // The reading of a sender's words on a channel; the message of s numbers goes to the lent memory, which has s places.
-// Whatever is not read leaves zeros there. O(s²) products for the polynomial through the first s words, O(s w) for the test on all w.
+// Whatever is not read leaves zeros there. O(s²) products for the polynomial through the first s words, s for each of the others to test it.
 pub fn read(channel: Channel, words: &[PartWord], message: &mut [u32]) -> Reading
     ensures made { λ r. ⌜ Made (settings channel .q) (length (now (message .entry))) (wordsIn (now (words .entry))) (readOf r (now (message .exit))) ⌝ }
     ensures cleared { λ r. ⌜ Cleared r (now (message .exit)) ⌝ }
@@ -58,7 +57,7 @@ pub fn read(channel: Channel, words: &[PartWord], message: &mut [u32]) -> Readin
         return Reading::Doubtful;
     }
     interpolate(&words[0..size], message);
-    if fits(message, words) {
+    if fits(message, &words[size..]) {
         return Reading::Message {
             words: words.len(),
             off: 0,

@@ -1,3 +1,4 @@
+-- What is left decides at each turn, at a stop and at the end.
 use borrow.Author.Needs.{needs}
 use Rattle.messages.proofs.Left.{below-more, below-stop, below-all}
 use Rattle.messages.proofs.checks.is_message.Needs as need

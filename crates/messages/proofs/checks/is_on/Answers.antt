@@ -1,3 +1,4 @@
+-- What is left decides at each turn, at a stop and at the end.
 use borrow.Author.Needs.{needs}
 use Rattle.messages.proofs.Left.{agrees-all, agrees-more, agrees-stop}
 use Rattle.messages.proofs.checks.is_on.Needs as need

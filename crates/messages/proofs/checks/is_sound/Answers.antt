@@ -1,7 +1,6 @@
 -- One word more from the end on.
 use mathlib.Core.Path.{refl, sym, _∙_}
 use borrow.Author.Needs.{needs}
-use native.Mathlib.Omega.{arith}
 use Prim.Native.Nat.{_-_, _<_}
 use Rattle.messages.proofs.Sound.{seen-more, sound-all, sound-more, sound-none, seen-none, sound-off, sound-twice}
 use Rattle.messages.proofs.checks.is_sound.Needs as need

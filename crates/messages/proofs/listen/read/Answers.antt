@@ -1,11 +1,23 @@
 -- Each way to a reading.
-use mathlib.Core.Path.{refl, sym}
-use Prim.Native.Nat.{_≤_}
+use mathlib.Core.Path.{_≡_, refl, sym, ap, _∙_}
+use mathlib.Core.List.{List}
+use Prim.Native.Nat.{ℕ, _-_, _≤_}
 use Rattle.messages.proofs.Listening.{found, from-true, length-wordsIn, none, not-false}
 use Rattle.messages.proofs.Sound.{sound-take}
 use Rattle.messages.proofs.listen.read.Needs as need
+use Rattle.messages.specs.declared.words.PartWord.{PartWord}
+use Rattle.std.proofs.shelf.Lists.{take-rest}
 use borrow.Author.Needs.{needs}
+use lib.ListN.{length, drop, take}
+use native.Mathlib.Nat.{sub-zero}
 use native.Mathlib.Omega.{arith}
+
+-- the words through which the polynomial goes, and those that test it
+first : (ws : List PartWord) (n s : ℕ) → n ≡ s → take (n - 0) ws ≡ take s ws
+first ws n s e = rw (e, sub-zero s) refl
+
+others : (ws : List PartWord) (n s : ℕ) → n ≡ s → take (length ws - n) (drop n ws) ≡ drop s ws
+others ws n s e = take-rest ws n ∙ ap (λ (k : ℕ). drop k ws) e
 
 pub returns-then-words-size : need.returns-then-words-size
 returns-then-words-size c =
@@ -32,7 +44,12 @@ interpolate-requires c κs =
 pub returns-then-fits : need.returns-then-fits
 returns-then-fits c =
     record {
-      made = (sym (length-wordsIn _), refl, found _ _ _ _ (c .args .channel .narrow) (search needs) (search needs) (rw (c .parts .ensures) at (c .if-not-is-sound .ensures tt)) (c .if-fits .ensures tt));
+      made = (
+        sym (length-wordsIn _),
+        refl,
+        found _ _ (c .args .words .now) _ _ _ (c .args .channel .narrow) (search needs) (search needs) (first _ _ _ (c .clear .kept .message)) (others _ _ _ (c .clear .kept .message)) (
+            c .interpolate .ensures .agrees) (rw (c .parts .ensures) at (c .if-not-is-sound .ensures tt)) (c .if-fits .ensures tt),
+      );
       cleared = tt;
     }
 
@@ -41,7 +58,8 @@ returns c =
     record {
       made = (
         omega (arith, length-wordsIn (c .args .words .now), c .clear .kept .message),
-        none _ _ _ _ _ (c .args .channel .narrow) (search needs) (search needs) (omega (arith, c .clear .kept .message)) (c .interpolate .ensures .reduced) (c .interpolate .ensures .agrees) (c .if-fits .ensures tt),
+        none _ _ (c .args .words .now) _ _ _ (c .args .channel .narrow) (search needs) (search needs) (first _ _ _ (c .clear .kept .message)) (others _ _ _ (c .clear .kept .message)) (
+            c .interpolate .ensures .agrees) (c .interpolate .ensures .reduced) (c .if-fits .ensures tt),
       );
       cleared = c .clear-2 .ensures;
     }

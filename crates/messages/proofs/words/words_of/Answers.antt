@@ -1,8 +1,7 @@
--- One word more is written.
-use borrow.Author.Needs.{needs}
-use Rattle.std.proofs.shelf.Edits.{fill-by-more}
-use Rattle.speakall.specs.Frame.{wordAt}
+-- One word more.
+use Rattle.messages.proofs.Horner.{words-more}
 use Rattle.messages.proofs.words.words_of.Needs as need
+use borrow.Author.Needs.{needs}
 
 pub loop-part-again : need.loop-part-again
-loop-part-again c = rw (c .word-at .ensures) (fill-by-more (wordAt (c .args .message .now)) _ _ 0 (search needs) (c .loop-part .inv))
+loop-part-again c = search (needs, words-more)

@@ -5,3 +5,6 @@ mod wish;
 pub use choose::all;
 pub use choose::best;
 pub use wish::Wish;
+
+#[cfg(test)]
+mod tests;

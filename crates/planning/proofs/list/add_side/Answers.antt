@@ -5,8 +5,8 @@ use Rattle.std.specs.Results.{isOk}
 use Rattle.std.specs.Of.Vec.{vec-items}
 use Rattle.planning.specs.Wishes.{settingsOf}
 use Rattle.planning.proofs.Search.{list-passed, list-pushed}
-use Rattle.planning.proofs.choose.add_side.Needs as need
-use Rattle.planning.proofs.choose.add_side.Needs.{in-Some·else-is-err, in-rest}
+use Rattle.planning.proofs.list.add_side.Needs as need
+use Rattle.planning.proofs.list.add_side.Needs.{in-Some·else-is-err, in-rest}
 
 pub loop-d-again : need.loop-d-again
 loop-d-again c =

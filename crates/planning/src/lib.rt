@@ -6,6 +6,9 @@ mod wish;
 pub use first::best;
 pub use list::all;
 pub use wish::Wish;
+pub use wish::WishDebug;
+pub use wish::WishEq;
+pub use wish::WishPartialEq;
 
 // The smallest and the largest of everything, exactly as many as there are and one more, and ties.
 #[cfg(test)]

@@ -1,0 +1,2 @@
+-- Lemmas of the reading of the program's words.
+pub mod Reading

@@ -1,5 +1,5 @@
 -- What the arguments of the program `plan` mean, each by itself and all together.
--- numberOf, IsNumber, Dashed, Means; numbersOf, isRaw, Fine, Sound, StopsAt, wished, Answer; listOf, Stops, Joins, stoppedBy, endedWith. Assumes nothing.
+-- numberOf, IsNumber, Dashed, Means; numbersOf, isRaw, Fine, Sound, StopsAt, wished, Answer; listOf, Stops, Joins, stoppedBy, endedWith, placeOf, AllMeant. Assumes nothing.
 use mathlib.Core.Path.{_≡_}
 use mathlib.Core.Bool.{Bool, true, false, cond, _||_}
 use mathlib.Core.List.{List, [], _∷_, _++_}
@@ -12,6 +12,9 @@ use Rattle.std.specs.declared.option.Option.the-variants.{Some, None}
 use Rattle.std.specs.declared.result.Result.{Result}
 use Rattle.std.specs.declared.result.Result.the-variants.{Ok, Err}
 use Rattle.std.specs.shelf.Lists.{All}
+use Rattle.std.specs.declared.alloc.Global.{Global}
+use Rattle.std.specs.declared.string.String.{String}
+use Rattle.std.specs.Of.String.{string-bytes}
 use Rattle.planning.specs.declared.wish.Wish.{Wish}
 use Rattle.plan_words.specs.declared.word.Word.{Word}
 use Rattle.plan_words.specs.declared.word.Word.the-variants as word
@@ -124,3 +127,15 @@ endedWith raw Zero = Err (misuse.TooFew 0)
 endedWith raw (One a) = Err (misuse.TooFew 1)
 endedWith raw (Two a b) = Err (misuse.TooFew 2)
 endedWith raw (Three a b c) = Ok (cond raw (ask.Raw (record { senders = a; others = b; numbers = c })) (ask.Plan (record { senders = a; others = b; numbers = c })))
+
+-- the place of the word that is wrong
+abbrev pub placeOf : Misuse → Option ℕ
+placeOf (misuse.Unknown i) = Some i
+placeOf (misuse.NoNumber i) = Some i
+placeOf (misuse.TooMany i) = Some i
+placeOf (misuse.TooFew n) = None
+
+-- each word is what the text in its place means
+pub record AllMeant (texts : List (String Global)) (ws : List Word) : Type 0 where
+  pub count : length ws ≡ length texts
+  pub means : (i : ℕ) (s : String Global) (w : Word) → i < length texts → Means (string-bytes (getD texts i s)) (getD ws i w)

@@ -1,5 +1,9 @@
 // What one argument is: an option, a number, or neither.
-ghost use Rattle.plan_words.specs.Words.{Means};
+ghost use Rattle.plan_words.specs.Words.{AllMeant, Means};
+ghost use Rattle.std.specs.Of.Vec.{vec-items};
+ghost use Rattle.std.specs.Vec.{made};
+use std::alloc::AllocError;
+use std::alloc::Global;
 
 #[derive(Clone, Copy, PartialEq, Eq, Debug)]
 pub enum Word {
@@ -32,4 +36,15 @@ impl Word {
             Err(_) => Word::NoNumber,
         }
     }
+}
+
+// The words, in the order of the texts.
+pub fn words_of(heap: Global, texts: &[String]) -> Result<Vec<Word>, AllocError>
+    ensures { λ r. ⌜ made r (λ v. AllMeant (now (texts .entry)) (vec-items v)) ⌝ }
+{
+    let mut words = Vec::new(heap);
+    for text in texts {
+        words.push(Word::of(text.as_str()))?;
+    }
+    Ok(words)
 }

@@ -1,0 +1,3 @@
+-- What the contracts of the program's words and lines cite.
+pub mod Words
+pub mod Lines

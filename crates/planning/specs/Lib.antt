@@ -1,0 +1,2 @@
+-- What the contracts of planning cite.
+pub mod Wishes

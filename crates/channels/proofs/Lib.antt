@@ -3,3 +3,4 @@ pub mod Listed
 pub mod Facts
 pub mod Entries
 pub mod Digits
+pub mod Meeting

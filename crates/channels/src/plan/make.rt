@@ -1,9 +1,10 @@
 // How a plan is made of a sender's number, and the slot that it gives in a part.
-ghost use Prim.Native.Nat.{_<_, _^_, _≤_};
+ghost use Prim.Native.Nat.{_-_, _<_, _^_, _≤_};
 ghost use Rattle.channels.specs.Plans.{Planned, planIn};
 ghost use Rattle.channels.specs.Settings.{settings};
 ghost use Rattle.channels.specs.declared.fault.Fault.the-variants.{Sender as FaultSender};
-ghost use Rattle.speakall.specs.Plan.{below, digits as digitsOf, slotAt};
+ghost use Rattle.speakall.specs.Plan.{Channel as StatementChannel, Good, IsPlan, below, digits as digitsOf, slotAt};
+ghost use Rattle.speakall.specs.Promise.{meet};
 ghost use Rattle.std.specs.Options.{Cases as BySome};
 ghost use Rattle.std.specs.Results.{Cases};
 ghost use lib.Dec.{T};
@@ -66,5 +67,19 @@ impl Plan {
             return None;
         }
         Some(self.value(part))
+    }
+
+    // In how many parts of a frame the two plans have one slot. Two plans of one channel that differ meet in at most d - 1.
+    pub fn meets(self, other: Plan) -> u8
+        ensures count { λ r. ⌜ r ≡ meet (self .q) (slotAt (self .q) (planIn self)) (slotAt (other .q) (planIn other)) (self .q) ⌝ }
+        ensures seldom { λ r. ⌜ ((c : StatementChannel) → Good c → self .q ≡ c .q → other .q ≡ c .q → IsPlan c (planIn self) → IsPlan c (planIn other) → (planIn self ≡ planIn other → ⊥) → r ≤ c .d - 1) ⌝ }
+    {
+        let mut count = 0;
+        for part in 0..self.q {
+            if self.value(part) == other.value(part) {
+                count += 1;
+            }
+        }
+        count
     }
 }

@@ -57,9 +57,9 @@ own-word c n x (One m w) pos h t = rw (same-plans c n m pos h (ltb-true m (c .q 
     go false = refl
 
 -- what the code takes from the slot of the sender's plan
-pub own-in : (c : Channel) (n x y q : ℕ) (slots : List Slot) (o : Option PartWord) → 0 < c .q → n < c .q ^ c .d → thereIn (c .q ^ c .d) slots ≡ true → q ≡ c .q → y ≡ slotAt (c .q) (planOf c n) x →
-    o ≡ ownWord n x (getD slots (x * q + y) Silence) → wordsIn (listOf o) ≡ wordIf (planOf c n) x (slotOf c (slotIn (c .q) slots x (slotAt (c .q) (planOf c n) x)))
-own-in c n x y q slots o pos h t eq ey eo =
+pub own-in : (c : Channel) (n x y q : ℕ) (slots : List Slot) (v : Slot) (o : Option PartWord) → 0 < c .q → n < c .q ^ c .d → thereIn (c .q ^ c .d) slots ≡ true → q ≡ c .q → y ≡ slotAt (c .q) (planOf c n) x →
+    v ≡ slotIn q slots x y → o ≡ ownWord n x v → wordsIn (listOf o) ≡ wordIf (planOf c n) x (slotOf c (slotIn (c .q) slots x (slotAt (c .q) (planOf c n) x)))
+own-in c n x y q slots v o pos h t eq ey ev eo =
     let own : o ≡ ownWord n x (slotIn (c .q) slots x (slotAt (c .q) (planOf c n) x)) = cc in
     ap (λ (z : Option PartWord). wordsIn (listOf z)) own ∙ own-word c n x (slotIn (c .q) slots x (slotAt (c .q) (planOf c n) x)) pos h (there-at (c .q ^ c .d) slots (x * c .q + slotAt (c .q) (planOf c n) x) t)
 

@@ -12,6 +12,7 @@ ghost use mathlib.Core.Bool.{true};
 ghost use mathlib.Core.List.{[]};
 ghost use mathlib.Core.Path.{_≡_};
 use super::Frame;
+use super::slot_at;
 use crate::slot::Slot;
 use channels::Channel;
 use channels::Fault;
@@ -28,9 +29,8 @@ fn say_in(q: u8, part: u8, y: u8, sender: u32, word: u32, slots: &mut [Slot])
     requires whole { ⌜ length (now slots) ≡ q * q ⌝ }
     ensures { λ _. ⌜ now (slots .exit) ≡ set (now (slots .entry)) (part * q + y) (joined sender word (slotIn q (now (slots .entry)) part y)) ⌝ }
 {
-    let at = part as usize * q as usize + y as usize;
-    let slot = slots[at];
-    slots[at] = slot.with(sender, word);
+    let slot = slot_at(slots, q, part, y);
+    slots[part as usize * q as usize + y as usize] = slot.with(sender, word);
 }
 
 // One sender more speaks its message by its plan, in all q parts.

@@ -17,6 +17,7 @@ ghost use mathlib.Core.List.{_++_};
 ghost use mathlib.Core.Logic.{_⊎_};
 ghost use mathlib.Core.Path.{_≡_};
 use super::Frame;
+use super::slot_at;
 use crate::slot::Slot;
 use channels::Channel;
 use channels::Fault;
@@ -35,7 +36,7 @@ fn word_in(channel: Channel, plan: Plan, number: u32, part: u8, slots: &[Slot]) 
     ensures { λ r. ⌜ wordsIn (listOf r) ≡ wordIf (planOf (settings channel) number) part (slotOf (settings channel) (slotIn (channel .q) (now (slots .entry)) part (slotAt (channel .q) (planOf (settings channel) number) part))) ⌝ }
 {
     let y = plan.slot(part)?;
-    slots[part as usize * channel.parts() as usize + y as usize].word_of(number, part)
+    slot_at(slots, channel.parts(), part, y).word_of(number, part)
 }
 
 // A word more, if there is one.

@@ -1,6 +1,8 @@
 // What is told of words that ask for nothing: which word is wrong, and what is wanted.
-ghost use Rattle.plan_words.specs.Lines.{misuseText};
+ghost use Rattle.plan_words.specs.Lines.{Told, misuseText};
 ghost use Rattle.plan_words.specs.Words.{placeOf};
+ghost use Rattle.std.specs.Of.String.{string-bytes};
+ghost use Rattle.std.specs.Vec.{made};
 ghost use Rattle.std.specs.declared.option.Option.the-variants.{Some};
 ghost use mathlib.Core.Path.{_≡_};
 use crate::request::Misuse;
@@ -9,10 +11,11 @@ use std::alloc::Global;
 use std::fmt;
 
 pub const USAGE: &str = "plan SENDERS K NUMBERS
-    The channel with the fewest slots in a frame that has as many senders or more, in which K others may speak
-    in the same frame, and whose messages have as many numbers or more. Then all channels that would do.
+    Of the channels with as many senders or more, in which K others may speak in the same frame, and whose
+    messages have as many numbers or more: the one with the fewest slots in a frame, and then all of them.
+    A line begins with the channel's q, d and k.
 plan --raw SENDERS K NUMBERS
-    The channel's 4 bytes.
+    The channel's 4 bytes on standard output: 1, q, d, k.
 plan --help
     This text.
 
@@ -49,7 +52,9 @@ pub impl fmt::Display for Misuse as MisuseDisplay {
 }
 
 // The line for the user, with the word that is wrong where there is one.
-pub fn told(heap: Global, misuse: Misuse, texts: &[String]) -> Result<String, AllocError> {
+pub fn told(heap: Global, misuse: Misuse, texts: &[String]) -> Result<String, AllocError>
+    ensures { λ r. ⌜ made r (λ s. Told (now (texts .entry)) misuse (string-bytes s)) ⌝ }
+{
     let Some(i) = misuse.place() else {
         return format!(heap, "plan: {misuse}");
     };

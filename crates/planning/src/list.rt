@@ -4,6 +4,7 @@ ghost use Rattle.planning.specs.Wishes.{AllBefore, AllThatServe, asked, settin
 ghost use Rattle.speakall.specs.Plan.{sides as listedSides};
 ghost use Rattle.std.specs.Of.Vec.{vec-items};
 ghost use Rattle.std.specs.Results.{Cases};
+ghost use mathlib.Core.List.{[], _++_, _∷_};
 ghost use mathlib.Core.Path.{_≡_};
 use crate::wish::Wish;
 use crate::wish::serving;
@@ -12,6 +13,16 @@ use channels::Fault;
 use channels::table;
 use std::alloc::Global;
 
+// Puts the channel after those found, or tells that memory fails.
+fn keep(found: &mut Vec<Channel>, channel: Channel) -> Result<(), Fault>
+    ensures { λ r. ⌜ Cases r (λ _. vec-items (now (found .exit)) ≡ vec-items (now (found .entry)) ++ (channel ∷ [])) (λ e. e ≡ Memory) ⌝ }
+{
+    if found.push(channel).is_err() {
+        return Err(Fault::Memory);
+    }
+    Ok(())
+}
+
 // Adds the channels with this q that serve, the lowest d first.
 fn add_side(wish: Wish, q: u8, found: &mut Vec<Channel>) -> Result<(), Fault>
     requires { ⌜ AllBefore wish (asked wish q 1) (settingsOf (vec-items (now found))) ⌝ }
@@ -19,9 +30,7 @@ fn add_side(wish: Wish, q: u8, found: &mut Vec<Channel>) -> Result<(), Fault>
 {
     for d in 1..5 {
         if let Some(channel) = serving(wish, q, d) {
-            if found.push(channel).is_err() {
-                return Err(Fault::Memory);
-            }
+            keep(found, channel)?;
         }
     }
     Ok(())

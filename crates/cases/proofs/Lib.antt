@@ -1,0 +1,3 @@
+-- Proofs of the rows that are more than a computation.
+pub mod Readings
+pub mod Planning

@@ -1,0 +1,2 @@
+-- The table of worked cases.
+pub mod Rows

@@ -1,4 +1,5 @@
-// The lines that the program answers with: a channel with its sizes, and why there is none. And a channel's bytes.
+// The lines that the program answers with: a channel with its sizes, and why there is none.
+// And a channel's bytes.
 ghost use Rattle.channels.specs.Faults.{faultText};
 ghost use Rattle.channels.specs.Settings.{settings};
 ghost use Rattle.plan_words.specs.Lines.{bytesOf, lineOf, wishText};

@@ -1,4 +1,5 @@
 // What is told of words that ask for nothing: which word is wrong, and what is wanted.
+// And how the program is used.
 ghost use Rattle.plan_words.specs.Lines.{Told, misuseText};
 ghost use Rattle.plan_words.specs.Words.{placeOf};
 ghost use Rattle.std.specs.Of.String.{string-bytes};

@@ -1,4 +1,5 @@
 // What the arguments ask for, read word by word: the first that is wrong, or `--help`, decides.
+// Options may stand anywhere among the three numbers.
 ghost use Rattle.plan_words.specs.Words.{Answer, Joins, endedWith, listOf, stoppedBy};
 ghost use Rattle.std.specs.Options.{Cases as BySome};
 ghost use lib.ListN.{length};

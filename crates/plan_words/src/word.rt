@@ -1,4 +1,5 @@
 // What one argument is: an option, a number, or neither.
+// A word that begins with `-` is taken for an option, known or not.
 ghost use Rattle.plan_words.specs.Words.{AllMeant, Means};
 ghost use Rattle.std.specs.Of.Vec.{vec-items};
 ghost use Rattle.std.specs.Vec.{made};

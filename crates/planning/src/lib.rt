@@ -1,4 +1,5 @@
 // Which channel to take: of those that serve what is asked, the one with the fewest slots in a frame, and the list of all.
+// A channel serves that has exactly the k asked for, as many senders or more, and messages as long or longer.
 mod first;
 mod list;
 mod wish;
@@ -7,7 +8,6 @@ pub use first::best;
 pub use list::all;
 pub use wish::Wish;
 pub use wish::WishDebug;
-pub use wish::WishEq;
 pub use wish::WishPartialEq;
 
 // The smallest and the largest of everything, exactly as many as there are and one more, and ties.

@@ -1,4 +1,5 @@
-// All channels that serve a wish, found in the order in which they are listed.
+// All channels that serve a wish, found in the order in which they are listed: the sides in rising order,
+// and for each the digits from 1 up.
 ghost use Rattle.channels.specs.declared.fault.Fault.the-variants.{Memory};
 ghost use Rattle.planning.specs.Wishes.{AllBefore, AllThatServe, asked, settingsOf};
 ghost use Rattle.speakall.specs.Plan.{sides as listedSides};

@@ -1,3 +1,4 @@
+-- A word that stops gives the answer; else one word more is kept.
 use Rattle.plan_words.proofs.Reading.{held-more, answer-stopped, answer-ended}
 use Rattle.plan_words.proofs.request.read_words.Needs as need
 

@@ -1,3 +1,4 @@
+-- What was kept of the words so far.
 use lib.ListN.{take}
 use Rattle.plan_words.proofs.Reading.{Held}
 use Rattle.plan_words.proofs.request.read_words.Given as given

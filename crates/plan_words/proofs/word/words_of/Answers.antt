@@ -1,3 +1,4 @@
+-- One text more, and its word.
 use native.Mathlib.Omega.{arith}
 use Rattle.std.specs.Of.Vec.{vec-items}
 use Rattle.plan_words.proofs.Meant.{meant-none, meant-more, meant-all}

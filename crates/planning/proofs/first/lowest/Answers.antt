@@ -1,3 +1,4 @@
+-- The first d that serves is the lowest; after four there is none.
 use Rattle.planning.proofs.Search.{lower-none, lower-more, lower-all, lower-found}
 use Rattle.planning.proofs.first.lowest.Needs as need
 

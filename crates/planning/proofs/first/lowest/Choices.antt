@@ -1,3 +1,4 @@
+-- No channel with this q and a lower d serves.
 use Rattle.planning.proofs.Search.{NoneLower}
 use Rattle.planning.proofs.first.lowest.Given as given
 

@@ -1,3 +1,4 @@
+-- The first side with a channel that serves has the fewest slots; after the last side there is none.
 use mathlib.Core.Path.{refl}
 use Rattle.planning.proofs.Search.{narrower-none, narrower-more, narrower-all, narrower-found}
 use Rattle.planning.proofs.first.narrowest.Needs as need

@@ -1,3 +1,4 @@
+-- No channel with a smaller q serves.
 use Rattle.planning.proofs.Sides.{sideAt}
 use Rattle.planning.proofs.Search.{NoneNarrower}
 use Rattle.planning.proofs.first.narrowest.Given as given

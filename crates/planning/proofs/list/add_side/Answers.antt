@@ -1,3 +1,4 @@
+-- A channel that serves is put last; one that does not is passed.
 use Rattle.std.specs.Of.Vec.{vec-items}
 use Rattle.planning.specs.Wishes.{settingsOf}
 use Rattle.planning.proofs.Search.{list-passed, list-pushed}

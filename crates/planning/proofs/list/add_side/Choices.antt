@@ -1,3 +1,4 @@
+-- Found are all that serve and come before this q and d.
 use Rattle.std.specs.Of.Vec.{vec-items}
 use Rattle.planning.specs.Wishes.{AllBefore, asked, settingsOf}
 use Rattle.planning.proofs.list.add_side.Given as given

@@ -1,3 +1,4 @@
+-- From one side to the next no channel lies between.
 use Rattle.planning.proofs.Sides.{side-read}
 use Rattle.planning.proofs.Search.{list-none, list-next-side, list-all}
 use Rattle.planning.proofs.list.gathered.Needs as need

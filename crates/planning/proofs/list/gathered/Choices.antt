@@ -1,3 +1,4 @@
+-- Found are all that serve and come before this side.
 use Rattle.std.specs.Of.Vec.{vec-items}
 use Rattle.planning.specs.Wishes.{AllBefore, asked, settingsOf}
 use Rattle.planning.proofs.Sides.{sideAt}

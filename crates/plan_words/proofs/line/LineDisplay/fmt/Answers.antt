@@ -1,3 +1,4 @@
+-- What is written has the sizes that the channel tells.
 use Rattle.plan_words.proofs.line.LineDisplay.fmt.Needs as need
 
 pub returns : need.returns

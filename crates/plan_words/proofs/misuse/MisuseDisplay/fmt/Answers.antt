@@ -1,3 +1,4 @@
+-- Each arm writes the text that the definition has for its case.
 use Rattle.plan_words.proofs.misuse.MisuseDisplay.fmt.Needs as need
 
 pub returns-in-Unknown : need.returns-in-Unknown

@@ -1,3 +1,4 @@
+-- A text that is no number and does not begin with `-`.
 use lib.Dec.{lit<}
 use Rattle.std.proofs.shelf.Patterns.{starts-char}
 use Rattle.std.proofs.shelf.Tests.{both-ways}

@@ -1,0 +1,2 @@
+-- Lemmas of the steps of SHA-256 and of its padding.
+mod Steps

@@ -1,5 +1,5 @@
 -- The digest of a message, FIPS 180-4, 6.2.
--- nextWord, schedule (W), roundOn, rounds, compressed, blocksDone, bytesOf, digest. Assumes nothing.
+-- nextWord, schedule (W), roundOn, rounds, sums, compressed, blocksDone, wordBytes, bytesOf, digest. Assumes nothing.
 use mathlib.Core.List.{List, [], _∷_, _++_}
 use Prim.Native.Nat.{ℕ, zero, suc, _+_, _*_, _/_, _%_, _^_}
 use lib.ListN.{length, getD}
@@ -45,10 +45,15 @@ unfoldable pub blocksDone : List ℕ → ℕ → List ℕ
 blocksDone bs zero = initial
 blocksDone bs (suc n) = compressed (blocksDone bs n) (wordsFrom bs (16 * n) 16)
 
--- words as bytes, high byte first
-unfoldable pub bytesOf : List ℕ → List ℕ
-bytesOf [] = []
-bytesOf (w ∷ ws) = (w / 2 ^ 24 % 256) ∷ (w / 2 ^ 16 % 256) ∷ (w / 2 ^ 8 % 256) ∷ (w % 256) ∷ bytesOf ws
+-- a word as bytes, high byte first
+abbrev pub wordBytes : ℕ → List ℕ
+wordBytes w = (w / 2 ^ 24 % 256) ∷ (w / 2 ^ 16 % 256) ∷ (w / 2 ^ 8 % 256) ∷ (w % 256) ∷ []
+
+-- a hash value as bytes
+abbrev pub bytesOf : List ℕ → List ℕ
+bytesOf s =
+    wordBytes (getD s 0 0) ++ (wordBytes (getD s 1 0) ++ (wordBytes (getD s 2 0) ++ (wordBytes (getD s 3 0) ++
+    (wordBytes (getD s 4 0) ++ (wordBytes (getD s 5 0) ++ (wordBytes (getD s 6 0) ++ wordBytes (getD s 7 0)))))))
 
 -- the digest of a message of bytes
 unfoldable pub digest : List ℕ → List ℕ

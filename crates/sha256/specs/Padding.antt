@@ -1,5 +1,5 @@
 -- How a message is padded to whole blocks of 64 bytes and cut into words, FIPS 180-4, 5.1.1 and 5.2.1.
--- zeros, lengthField, padded, wordAt, wordsFrom. Assumes nothing.
+-- zeros, lengthField, padding, padded, wordAt, wordsFrom. Assumes nothing.
 use mathlib.Core.List.{List, [], _∷_, _++_}
 use Prim.Native.Nat.{ℕ, zero, suc, _+_, _-_, _*_, _/_, _%_, _^_}
 use lib.ListN.{length, getD, replicate}
@@ -13,8 +13,12 @@ abbrev pub lengthField : ℕ → List ℕ
 lengthField n =
     (n / 2 ^ 56 % 256) ∷ (n / 2 ^ 48 % 256) ∷ (n / 2 ^ 40 % 256) ∷ (n / 2 ^ 32 % 256) ∷ (n / 2 ^ 24 % 256) ∷ (n / 2 ^ 16 % 256) ∷ (n / 2 ^ 8 % 256) ∷ (n % 256) ∷ []
 
+-- what follows a message of n bytes
+unfoldable pub padding : ℕ → List ℕ
+padding n = 128 ∷ (replicate (zeros n) 0 ++ lengthField (8 * n))
+
 unfoldable pub padded : List ℕ → List ℕ
-padded m = m ++ (128 ∷ (replicate (zeros (length m)) 0 ++ lengthField (8 * length m)))
+padded m = m ++ padding (length m)
 
 -- the word number n of these bytes, high byte first
 abbrev pub wordAt : List ℕ → ℕ → ℕ

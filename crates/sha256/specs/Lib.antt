@@ -3,3 +3,4 @@ pub mod Constants
 pub mod Functions
 pub mod Padding
 pub mod Hash
+pub mod Known

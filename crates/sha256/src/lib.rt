@@ -1,6 +1,7 @@
 // SHA-256 of bytes, as FIPS 180-4 has it: of one slice, of two, and the first four bytes of the digest of nine bytes.
 ghost use Prim.Native.Nat.{_+_, _*_, _/_, _<_, _^_};
 ghost use Rattle.sha256.specs.Hash.{blocksDone, bytesOf, digest as digestOf};
+ghost use Rattle.sha256.specs.Known.{Known};
 ghost use Rattle.sha256.specs.Padding.{padded};
 ghost use lib.ListN.{length, take};
 ghost use mathlib.Core.List.{_++_};
@@ -9,6 +10,9 @@ ghost use mathlib.Core.Path.{_≡_};
 mod constants;
 mod padding;
 mod rounds;
+
+// As many bytes as no message has.
+const TOO_MANY: usize = 1 << 63;
 
 // The hash value as bytes.
 fn to_bytes(hash: [u32; 8]) -> [u8; 32]
@@ -41,3 +45,41 @@ fn hash(a: &[u8], b: &[u8]) -> [u32; 8]
     }
     hash
 }
+
+// The digest of `a` and then `b`, which no memory holds too many bytes of.
+fn digest(a: &[u8], b: &[u8]) -> [u8; 32]
+    requires { ⌜ length (now a) + length (now b) < 2 ^ 63 ⌝ }
+    ensures { λ r. ⌜ r ≡ digestOf (now (a .entry) ++ now (b .entry)) ⌝ }
+{
+    to_bytes(hash(a, b))
+}
+
+// The digest of a message.
+pub fn sha256(bytes: &[u8]) -> [u8; 32]
+    ensures { λ r. ⌜ r ≡ digestOf (now (bytes .entry)) ⌝ }
+{
+    digest(bytes, &[])
+}
+
+// The digest of one slice and then another. Of 2^63 bytes and more, which no memory holds, it is 32 zeros.
+pub fn sha256_of_two(a: &[u8], b: &[u8]) -> [u8; 32]
+    ensures { λ r. ⌜ (length (now (a .entry)) + length (now (b .entry)) < 2 ^ 63 → r ≡ digestOf (now (a .entry) ++ now (b .entry))) ⌝ }
+{
+    if a.len() >= TOO_MANY - b.len() {
+        return [0; 32];
+    }
+    digest(a, b)
+}
+
+// The first four bytes of the digest of nine bytes: one block, with no slice and no loop over its bytes.
+pub fn sum(bytes: [u8; 9]) -> [u8; 4]
+    ensures { λ r. ⌜ r ≡ take 4 (digestOf bytes) ⌝ }
+{
+    let [first, ..] = rounds::compress(constants::initial_hash(), padding::nine_words(bytes));
+    first.to_be_bytes()
+}
+
+// The digests of three messages, written out.
+pub fn known_digests()
+    ensures { λ _. ⌜ Known ⌝ }
+{}

@@ -82,10 +82,10 @@ const H0: [u32; 8] = [
 ];
 
 // The constant of each of the 64 rounds.
-pub fn round_constants() -> [u32; 64]
-    ensures { λ r. ⌜ r ≡ standard ⌝ }
+pub fn round_constants() -> &'static [u32]
+    ensures { λ r. ⌜ now r ≡ standard ⌝ }
 {
-    K
+    &K
 }
 
 // The hash value before the first block.

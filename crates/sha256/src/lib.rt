@@ -28,8 +28,38 @@ fn to_bytes(hash: [u32; 8]) -> [u8; 32]
     let [g0, g1, g2, g3] = g.to_be_bytes();
     let [h0, h1, h2, h3] = h.to_be_bytes();
     [
-        a0, a1, a2, a3, b0, b1, b2, b3, c0, c1, c2, c3, d0, d1, d2, d3, e0, e1, e2, e3, f0, f1, f2,
-        f3, g0, g1, g2, g3, h0, h1, h2, h3,
+        a0,
+        a1,
+        a2,
+        a3,
+        b0,
+        b1,
+        b2,
+        b3,
+        c0,
+        c1,
+        c2,
+        c3,
+        d0,
+        d1,
+        d2,
+        d3,
+        e0,
+        e1,
+        e2,
+        e3,
+        f0,
+        f1,
+        f2,
+        f3,
+        g0,
+        g1,
+        g2,
+        g3,
+        h0,
+        h1,
+        h2,
+        h3,
     ]
 }
 
@@ -83,3 +113,6 @@ pub fn sum(bytes: [u8; 9]) -> [u8; 4]
 pub fn known_digests()
     ensures { λ _. ⌜ Known ⌝ }
 {}
+
+#[cfg(test)]
+mod tests;

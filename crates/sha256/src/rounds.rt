@@ -47,8 +47,7 @@ fn round(state: [u32; 8], constant: u32, word: u32) -> [u32; 8]
     ensures { λ r. ⌜ r ≡ roundOn state constant word ⌝ }
 {
     let [a, b, c, d, e, f, g, h] = state;
-    let t1 = h
-        .wrapping_add(big_sigma1(e))
+    let t1 = h.wrapping_add(big_sigma1(e))
         .wrapping_add(choose(e, f, g))
         .wrapping_add(constant)
         .wrapping_add(word);

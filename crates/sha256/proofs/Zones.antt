@@ -1,6 +1,6 @@
 -- A padded message by zones: its own bytes, the byte 128, zeros, the length; and its words and blocks, one after the other.
 -- padding-first, padding-zero, padding-field, padded-first, padded-second, padded-rest, words-none, words-more, words-all, blocks-none, blocks-more, digest-blocks. Assumes nothing.
-use mathlib.Core.Path.{_≡_, refl, ap, _∙_, sym, subst}
+use mathlib.Core.Path.{_≡_, refl, ap, _∙_, sym}
 use mathlib.Core.List.{List, [], _∷_, _++_}
 use Prim.Native.Nat.{ℕ, suc, _+_, _-_, _*_, _/_, _<_, _≤_}
 use native.Mathlib.Numerals.{add-one}

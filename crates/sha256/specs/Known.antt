@@ -1,7 +1,7 @@
 -- Digests of three messages, written out: none of its bytes, the standard's first example, and nine bytes.
 -- Known. Assumes nothing.
 use mathlib.Core.Path.{_≡_}
-use mathlib.Core.List.{List, [], _∷_}
+use mathlib.Core.List.{[], _∷_}
 use lib.Chars.{codes}
 use lib.ListN.{take}
 use Rattle.sha256.specs.Hash.{digest}

@@ -1,6 +1,6 @@
 // SHA-256 of bytes, as FIPS 180-4 has it: of one slice, of two, and the first four bytes of the digest of nine bytes.
-ghost use Prim.Native.Nat.{_+_, _*_, _/_, _<_, _^_};
-ghost use Rattle.sha256.specs.Hash.{blocksDone, bytesOf, digest as digestOf};
+ghost use Prim.Native.Nat.{_+_, _/_, _<_, _^_};
+ghost use Rattle.sha256.specs.Hash.{blocksDone, bytesOf, digest as digestOf, wordBytes};
 ghost use Rattle.sha256.specs.Known.{Known};
 ghost use Rattle.sha256.specs.Padding.{padded};
 ghost use lib.ListN.{length, take};
@@ -76,7 +76,7 @@ fn hash(a: &[u8], b: &[u8]) -> [u32; 8]
     hash
 }
 
-// The digest of `a` and then `b`, which no memory holds too many bytes of.
+// The digest of `a` and then `b`.
 fn digest(a: &[u8], b: &[u8]) -> [u8; 32]
     requires { ⌜ length (now a) + length (now b) < 2 ^ 63 ⌝ }
     ensures { λ r. ⌜ r ≡ digestOf (now (a .entry) ++ now (b .entry)) ⌝ }
@@ -101,12 +101,20 @@ pub fn sha256_of_two(a: &[u8], b: &[u8]) -> [u8; 32]
     digest(a, b)
 }
 
-// The first four bytes of the digest of nine bytes: one block, with no slice and no loop over its bytes.
+// The first word of the hash value of nine bytes, which are one block.
+fn first_word(bytes: [u8; 9]) -> u32
+    ensures { λ r. ⌜ wordBytes r ≡ take 4 (digestOf bytes) ⌝ }
+{
+    let words = padding::nine_words(bytes);
+    let [first, ..] = rounds::compress(constants::initial_hash(), words);
+    first
+}
+
+// The first four bytes of the digest of nine bytes.
 pub fn sum(bytes: [u8; 9]) -> [u8; 4]
     ensures { λ r. ⌜ r ≡ take 4 (digestOf bytes) ⌝ }
 {
-    let [first, ..] = rounds::compress(constants::initial_hash(), padding::nine_words(bytes));
-    first.to_be_bytes()
+    first_word(bytes).to_be_bytes()
 }
 
 // The digests of three messages, written out.

@@ -1,8 +1,7 @@
 // What is done with one block of 64 bytes: its schedule of 64 words, and 64 rounds on the hash value.
-ghost use Prim.Native.Nat.{_+_, _<_};
 ghost use Rattle.sha256.specs.Functions.{Ch, Maj, bigSigma0, bigSigma1, sigma0, sigma1};
-ghost use Rattle.sha256.specs.Hash.{compressed, nextWord, roundOn, rounds, schedule, sums};
-ghost use lib.ListN.{length, take};
+ghost use Rattle.sha256.specs.Hash.{compressed, roundOn, rounds, schedule, sums};
+ghost use lib.ListN.{take};
 ghost use mathlib.Core.Path.{_≡_};
 use crate::constants;
 

@@ -1,7 +1,8 @@
 // What is done with one block of 64 bytes: its schedule of 64 words, and 64 rounds on the hash value.
+ghost use Prim.Native.Nat.{_+_, _<_};
 ghost use Rattle.sha256.specs.Functions.{Ch, Maj, bigSigma0, bigSigma1, sigma0, sigma1};
-ghost use Rattle.sha256.specs.Hash.{compressed, roundOn, rounds, schedule, sums};
-ghost use lib.ListN.{take};
+ghost use Rattle.sha256.specs.Hash.{compressed, nextWord, roundOn, rounds, schedule, sums};
+ghost use lib.ListN.{length, take};
 ghost use mathlib.Core.Path.{_≡_};
 use crate::constants;
 
@@ -54,16 +55,24 @@ fn round(state: [u32; 8], constant: u32, word: u32) -> [u32; 8]
     [t1.wrapping_add(t2), a, b, c, d.wrapping_add(t1), e, f, g]
 }
 
+// The word that follows the first n + 16 words of a schedule.
+fn next_word(w: &[u32], n: usize) -> u32
+    requires { ⌜ n + 16 < length (now w) ⌝ }
+    ensures { λ r. ⌜ r ≡ nextWord (now (w .entry)) n ⌝ }
+{
+    sigma1(w[n + 14])
+        .wrapping_add(w[n + 9])
+        .wrapping_add(sigma0(w[n + 1]))
+        .wrapping_add(w[n])
+}
+
 // The schedule's words after the first 16, which are the block's.
 fn expand(block: [u32; 64]) -> [u32; 64]
     ensures { λ r. ⌜ r ≡ schedule (take 16 block) 48 ⌝ }
 {
     let mut w = block;
     for n in 0..48 {
-        w[n + 16] = sigma1(w[n + 14])
-            .wrapping_add(w[n + 9])
-            .wrapping_add(sigma0(w[n + 1]))
-            .wrapping_add(w[n]);
+        w[n + 16] = next_word(&w, n);
     }
     w
 }

@@ -1,0 +1,4 @@
+-- Lemmas of the bytes of a word on the air, and of what counts.
+mod Items
+mod Said
+mod Taken

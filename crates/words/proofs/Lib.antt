@@ -2,3 +2,4 @@
 mod Items
 mod Said
 mod Taken
+mod Tested

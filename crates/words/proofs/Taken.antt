@@ -1,5 +1,5 @@
 -- What counts of bytes that are some word's, and what a listener makes of a word that was put out.
--- Here, counts-not, heard-taken, heard-not. Assumes nothing.
+-- Here, counts-here, counts-not, heard-taken, heard-not. Assumes nothing.
 use mathlib.Core.Path.{_≡_, refl, ap, _∙_, sym, subst}
 use mathlib.Core.List.{List}
 use Prim.Native.Nat.{ℕ, _%_, _<_, _^_, _≤_}
@@ -13,13 +13,13 @@ use Rattle.speakall.specs.Plan.{Channel}
 use Rattle.speakall.specs.Frame.{p}
 use Rattle.words.specs.Bytes.{airBytes}
 use Rattle.words.specs.Counting.{Counts, Speaks}
-use Rattle.words.proofs.Said.{same-frame, same-sender, same-word}
+use Rattle.words.proofs.Said.{frame-read, sender-read, word-read}
 
 -- the word of these numbers counts here
 abbrev pub Here : Channel → (frame part slot s f w : ℕ) → Type 0
 Here c frame part slot s f w = (f ≡ frame % 256) × (w < p) × Speaks c s part slot
 
-counts-here : (c : Channel) (frame part slot s f w : ℕ) (bs : List ℕ) → bs ≡ airBytes s f w part → Here c frame part slot s f w → Counts c frame part slot bs s w
+pub counts-here : (c : Channel) (frame part slot s f w : ℕ) (bs : List ℕ) → bs ≡ airBytes s f w part → Here c frame part slot s f w → Counts c frame part slot bs s w
 counts-here c frame part slot s f w bs e h = record {
   said = e ∙ ap (λ (g : ℕ). airBytes s g w part) (h .0);
   speaks = h .2;
@@ -30,10 +30,11 @@ counts-here c frame part slot s f w bs e h = record {
 counts-same : (c : Channel) (frame part slot s f w : ℕ) (bs : List ℕ) → s < 2 ^ 24 → w < 2 ^ 32 → (c .q) ^ (c .d) ≤ 65536 → bs ≡ airBytes s f w part →
     (t v : ℕ) → Counts c frame part slot bs t v → (f ≡ frame % 256) × (s ≡ t) × (w ≡ v)
 counts-same c frame part slot s f w bs hs hw hc e t v k =
-    let b : airBytes s f w part ≡ airBytes t (frame % 256) v part = sym e ∙ k .said in
     let there = k .speaks .there in
     let below = k .below in
-    (same-frame s f w t (frame % 256) v part b, same-sender s f w t (frame % 256) v part b hs (omega arith), same-word s f w t (frame % 256) v part b hw (omega arith))
+    (sym (frame-read bs s f w part e) ∙ frame-read bs t (frame % 256) v part (k .said),
+      sym (sender-read bs s f w part e hs) ∙ sender-read bs t (frame % 256) v part (k .said) (omega arith),
+      sym (word-read bs s f w part e hw) ∙ word-read bs t (frame % 256) v part (k .said) (omega arith))
 
 pub counts-not : (c : Channel) (frame part slot s f w : ℕ) (bs : List ℕ) → s < 2 ^ 24 → w < 2 ^ 32 → (c .q) ^ (c .d) ≤ 65536 → bs ≡ airBytes s f w part →
     (Here c frame part slot s f w → ⊥) → (t v : ℕ) → Counts c frame part slot bs t v → ⊥

@@ -1,13 +1,13 @@
 // What a listener makes of twelve bytes heard in a slot: a sender's word that counts, or noise.
-ghost use Prim.Native.Nat.{ℕ, _+_, _*_, _%_, _<_};
+ghost use Prim.Native.Nat.{ℕ, _%_, _<_};
 ghost use Rattle.channels.specs.Settings.{settings};
 ghost use Rattle.speakall.specs.Frame.{p};
 ghost use Rattle.std.specs.Options.{Cases as BySome, isSome};
 ghost use Rattle.std.specs.Orderings.{Decides};
 ghost use Rattle.words.specs.Bytes.{airBytes};
-ghost use Rattle.words.specs.Counting.{Counts, Speaks};
+ghost use Rattle.words.specs.Counting.{Counts, Speaks, isCounted, senderIn, wordIn};
 ghost use lib.ListN.{getD};
-ghost use mathlib.Core.Bool.{false};
+ghost use mathlib.Core.Bool.{false, true};
 ghost use mathlib.Core.Path.{_≡_};
 use crate::AirWord;
 use channels::Channel;
@@ -25,9 +25,9 @@ pub struct Counted {
 
 // What the first eight bytes say.
 fn said_in(bytes: [u8; 12]) -> AirWord
-    ensures sender { λ r. ⌜ r .sender ≡ getD bytes 0 0 * 65536 + getD bytes 1 0 * 256 + getD bytes 2 0 ⌝ }
+    ensures sender { λ r. ⌜ r .sender ≡ senderIn bytes ⌝ }
     ensures frame { λ r. ⌜ r .frame ≡ getD bytes 3 0 ⌝ }
-    ensures word { λ r. ⌜ r .word ≡ getD bytes 4 0 * 16777216 + getD bytes 5 0 * 65536 + getD bytes 6 0 * 256 + getD bytes 7 0 ⌝ }
+    ensures word { λ r. ⌜ r .word ≡ wordIn bytes ⌝ }
 {
     let [a, b, c, frame, e, f, g, h, ..] = bytes;
     let sender = u32::from_be_bytes([0, a, b, c]);
@@ -79,7 +79,8 @@ impl AirWord {
         part: u8,
         slot: u8,
     ) -> Option<Counted>
-        ensures { λ r. ⌜ BySome r ((sender word : ℕ) → Counts (settings channel) frame part slot bytes sender word → ⊥) (λ k. Counts (settings channel) frame part slot bytes (k .sender) (k .word)) ⌝ }
+        ensures tested { λ r. ⌜ BySome r (isCounted (settings channel) frame part slot bytes ≡ false) (λ k. (isCounted (settings channel) frame part slot bytes ≡ true) × (k .sender ≡ senderIn bytes) × (k .word ≡ wordIn bytes)) ⌝ }
+        ensures counts { λ r. ⌜ BySome r ((sender word : ℕ) → Counts (settings channel) frame part slot bytes sender word → ⊥) (λ k. Counts (settings channel) frame part slot bytes (k .sender) (k .word)) ⌝ }
     {
         let said = read(bytes, part)?;
         if counts(said, channel, frame, part, slot) {
@@ -96,9 +97,9 @@ impl AirWord {
     // in the slot of the sender's plan, and noise in any other slot, and in a frame that differs modulo 256.
     pub fn heard(self, channel: Channel, frame: u32, part: u8, slot: u8) -> Option<Counted>
         ensures taken { λ r. ⌜ (Speaks (settings channel) (self .sender) part slot → self .frame ≡ frame % 256 → self .word < p → BySome r ⊥ (λ k. (k .sender ≡ self .sender) × (k .word ≡ self .word))) ⌝ }
-        ensures elsewhere { λ r. ⌜ ((Speaks (settings channel) (self .sender) part slot → ⊥) → isSome r ≡ false) ⌝ }
-        ensures otherwhen { λ r. ⌜ ((self .frame ≡ frame % 256 → ⊥) → isSome r ≡ false) ⌝ }
-        ensures above { λ r. ⌜ ((self .word < p → ⊥) → isSome r ≡ false) ⌝ }
+        ensures misplaced { λ r. ⌜ ((Speaks (settings channel) (self .sender) part slot → ⊥) → isSome r ≡ false) ⌝ }
+        ensures outdated { λ r. ⌜ ((self .frame ≡ frame % 256 → ⊥) → isSome r ≡ false) ⌝ }
+        ensures overlarge { λ r. ⌜ ((self .word < p → ⊥) → isSome r ≡ false) ⌝ }
     {
         AirWord::from_bytes(self.to_bytes(part), channel, frame, part, slot)
     }

@@ -31,10 +31,11 @@ counts-same : (c : Channel) (frame part slot s f w : ℕ) (bs : List ℕ) → s 
     (t v : ℕ) → Counts c frame part slot bs t v → (f ≡ frame % 256) × (s ≡ t) × (w ≡ v)
 counts-same c frame part slot s f w bs hs hw hc e t v k =
     let there = k .speaks .there in
-    let below = k .below in
-    (sym (frame-read bs s f w part e) ∙ frame-read bs t (frame % 256) v part (k .said),
+    let below = k .below in (
+      sym (frame-read bs s f w part e) ∙ frame-read bs t (frame % 256) v part (k .said),
       sym (sender-read bs s f w part e hs) ∙ sender-read bs t (frame % 256) v part (k .said) (omega arith),
-      sym (word-read bs s f w part e hw) ∙ word-read bs t (frame % 256) v part (k .said) (omega arith))
+      sym (word-read bs s f w part e hw) ∙ word-read bs t (frame % 256) v part (k .said) (omega arith),
+    )
 
 pub counts-not : (c : Channel) (frame part slot s f w : ℕ) (bs : List ℕ) → s < 2 ^ 24 → w < 2 ^ 32 → (c .q) ^ (c .d) ≤ 65536 → bs ≡ airBytes s f w part →
     (Here c frame part slot s f w → ⊥) → (t v : ℕ) → Counts c frame part slot bs t v → ⊥

@@ -4,3 +4,6 @@ pub mod counted;
 
 pub use air_word::AirWord;
 pub use counted::Counted;
+
+#[cfg(test)]
+mod tests;

@@ -12,12 +12,12 @@ pub returns-then-counts : need.returns-then-counts
 returns-then-counts c =
     let said = c .in-Continue-said .said in
     let k = counts-here (settings (c .args .channel)) (c .args .frame) (c .args .part) (c .args .slot) (said .sender) (said .frame) (said .word) (c .args .bytes)
-      (c .in-Continue-said .ensures tt) (c .counts .ensures .0 (c .if-counts .taken)) in
+    (c .in-Continue-said .ensures tt) (c .counts .ensures .0 (c .if-counts .taken)) in
     record { tested = tested-some _ _ _ _ _ _ _ (search needs) k; counts = k }
 
 pub returns-else-counts : need.returns-else-counts
 returns-else-counts c =
     let said = c .in-Continue-said .said in
     let n = counts-not (settings (c .args .channel)) (c .args .frame) (c .args .part) (c .args .slot) (said .sender) (said .frame) (said .word) (c .args .bytes)
-      (search needs) (search needs) (search needs) (c .in-Continue-said .ensures tt) (λ h. both-ways (c .counts .result) (c .if-counts .left) (c .counts .ensures .1 h)) in
+    (search needs) (search needs) (search needs) (c .in-Continue-said .ensures tt) (λ h. both-ways (c .counts .result) (c .if-counts .left) (c .counts .ensures .1 h)) in
     record { tested = tested-none _ _ _ _ _ n; counts = n }

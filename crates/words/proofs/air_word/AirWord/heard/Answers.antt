@@ -7,10 +7,10 @@ pub returns : need.returns
 returns c =
     let said = c .args .self in
     let not = heard-not (settings (c .args .channel)) (c .args .frame) (c .args .part) (c .args .slot) (said .sender) (said .frame) (said .word) (c .to-bytes .result) (c .from-bytes .result)
-      (search needs) (search needs) (search needs) (c .to-bytes .ensures) (c .from-bytes .ensures .counts) in
+    (search needs) (search needs) (search needs) (c .to-bytes .ensures) (c .from-bytes .ensures .counts) in
     record {
       taken = heard-taken (settings (c .args .channel)) (c .args .frame) (c .args .part) (c .args .slot) (said .sender) (said .frame) (said .word) (c .to-bytes .result) (c .from-bytes .result)
-        (search needs) (search needs) (search needs) (c .to-bytes .ensures) (c .from-bytes .ensures .counts);
+          (search needs) (search needs) (search needs) (c .to-bytes .ensures) (c .from-bytes .ensures .counts);
       misplaced = λ n. not (λ h. n (h .2));
       outdated = λ n. not (λ h. n (h .0));
       overlarge = λ n. not (λ h. n (h .1));

@@ -3,7 +3,7 @@
 use mathlib.Core.Path.{_≡_, refl, sym}
 use mathlib.Core.Bool.{Bool, true, false, _&&_}
 use mathlib.Core.List.{List}
-use Prim.Native.Nat.{ℕ, _%_, _<_, _^_, _≤_}
+use Prim.Native.Nat.{ℕ, _%_, _^_, _≤_}
 use native.Mathlib.Omega.{arith}
 use lib.Dec.{eqb, ltb}
 use Rattle.std.specs.shelf.Text.{sameBytes}
@@ -14,6 +14,10 @@ use Rattle.speakall.specs.Frame.{p}
 use Rattle.words.specs.Bytes.{airBytes}
 use Rattle.words.specs.Counting.{Counts, senderIn, wordIn, isCounted}
 use Rattle.words.proofs.Said.{sender-read, word-read}
+
+false-from : (b : Bool) → (b ≡ true → ⊥) → b ≡ false
+false-from true n = absurd (n refl)
+false-from false n = refl
 
 module _ (c : Channel) (frame part slot : ℕ) (bs : List ℕ) where
   -- the test, of a sender and a word that need not be those in the bytes
@@ -35,10 +39,6 @@ module _ (c : Channel) (frame part slot : ℕ) (bs : List ℕ) where
         speaks = record { there = ltb-true _ _ (e .1); in-part = ltb-true _ _ (d .1); in-slot = eqb-true _ _ (b .1) };
         below = ltb-true _ _ (a .1);
       }
-
-  false-from : (b : Bool) → (b ≡ true → ⊥) → b ≡ false
-  false-from true n = absurd (n refl)
-  false-from false n = refl
 
   pub tested-none : ((s w : ℕ) → Counts c frame part slot bs s w → ⊥) → isCounted c frame part slot bs ≡ false
   unfolding isCounted

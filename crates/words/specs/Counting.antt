@@ -1,5 +1,5 @@
--- Which bytes heard in a slot count as a sender's word; all others are noise.
--- Speaks, Counts, senderIn, wordIn, isCounted. Assumes nothing.
+-- What a sender says, and which bytes heard in a slot count as a sender's word; all others are noise.
+-- SaidBy, Speaks, Counts, senderIn, wordIn, isCounted. Assumes nothing.
 use mathlib.Core.Path.{_≡_}
 use mathlib.Core.Bool.{Bool, _&&_}
 use mathlib.Core.List.{List}
@@ -10,6 +10,13 @@ use Rattle.std.specs.shelf.Text.{sameBytes}
 use Rattle.speakall.specs.Plan.{Channel, slotAt, planOf}
 use Rattle.speakall.specs.Frame.{p}
 use Rattle.words.specs.Bytes.{airBytes}
+
+-- the number, the frame and the word that stand on the air for the word of a sender that is there
+pub record SaidBy (c : Channel) (sender frame word : ℕ) (s f w : ℕ) : Type 0 where
+  pub there : sender < (c .q) ^ (c .d)
+  pub number : s ≡ sender
+  pub remainder : f ≡ frame % 256
+  pub same : w ≡ word
 
 -- a sender that is there speaks in this slot of this part, by its plan
 pub record Speaks (c : Channel) (sender part slot : ℕ) : Type 0 where

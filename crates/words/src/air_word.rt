@@ -1,9 +1,10 @@
 // A word on the air, and its twelve bytes.
-ghost use Prim.Native.Nat.{_%_, _<_, _^_, _≤_};
+ghost use Prim.Native.Nat.{_<_, _^_, _≤_};
 ghost use Rattle.channels.specs.Settings.{settings};
 ghost use Rattle.channels.specs.declared.fault.Fault.the-variants.{Sender as FaultSender};
 ghost use Rattle.std.specs.Results.{Cases};
 ghost use Rattle.words.specs.Bytes.{airBytes, body as bodyOf, sumOf};
+ghost use Rattle.words.specs.Counting.{SaidBy};
 ghost use mathlib.Core.List.{_++_};
 ghost use mathlib.Core.Path.{_≡_};
 use channels::Channel;
@@ -40,7 +41,7 @@ fn sum_of(body: [u8; 8], part: u8) -> [u8; 4]
 impl AirWord {
     // The word of a sender in a frame, or `Fault::Sender` where the channel has no such sender.
     pub fn new(channel: Channel, sender: u32, frame: u32, word: u32) -> Result<AirWord, Fault>
-        ensures { λ r. ⌜ Cases r (λ a. (sender < settings channel .q ^ settings channel .d) × (a .sender ≡ sender) × (a .frame ≡ frame % 256) × (a .word ≡ word)) (λ e. (e ≡ FaultSender) × (settings channel .q ^ settings channel .d ≤ sender)) ⌝ }
+        ensures { λ r. ⌜ Cases r (λ a. SaidBy (settings channel) sender frame word (a .sender) (a .frame) (a .word)) (λ e. (e ≡ FaultSender) × (settings channel .q ^ settings channel .d ≤ sender)) ⌝ }
     {
         if sender >= channel.senders() {
             return Err(Fault::Sender);

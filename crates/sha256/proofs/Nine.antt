@@ -7,7 +7,7 @@ use lib.ListN.{length, getD, take}
 use Rattle.std.proofs.shelf.Counted.{fill-by-all}
 use Rattle.sha256.specs.Constants.{initial}
 use Rattle.sha256.specs.Padding.{padding, padded, wordsFrom}
-use Rattle.sha256.specs.Hash.{blocksDone, compressed, digest, wordBytes}
+use Rattle.sha256.specs.Hash.{blocksDone, bytesOf, compressed, digest, wordBytes}
 use Rattle.sha256.proofs.Zones.{digest-blocks}
 
 pub nine-words : (xs : List ℕ) → length xs ≡ 9 → wordsFrom (padded xs) 0 16 ≡
@@ -19,5 +19,5 @@ nine-words xs l = ap (λ ys. wordsFrom (padded ys) 0 16) (fill-by-all (λ (k : �
 
 -- one block, and the first word after it
 pub nine-digest : (xs : List ℕ) → length xs ≡ 9 → take 4 (digest xs) ≡ wordBytes (getD (compressed initial (wordsFrom (padded xs) 0 16)) 0 0)
-unfolding blocksDone
+unfolding blocksDone bytesOf
 nine-digest xs l = ap (take 4) (digest-blocks xs 9 (sym l))

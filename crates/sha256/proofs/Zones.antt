@@ -80,9 +80,9 @@ length-padded m =
     let c = length-front (length m) in
     omega arith
 
-pub digest-blocks : (m : List ℕ) (n : ℕ) → n ≡ length m → digest m ≡ bytesOf (blocksDone (padded m) ((n + 8) / 64 + 1))
+pub digest-blocks : (m : List ℕ) (n : ℕ) → n ≡ length m → digest m ≡ bytesOf (blocksDone (padded m) ((n + 8) / 64 + 1)) 8
 unfolding digest
 digest-blocks m n e =
     let l = length-padded m in
     let k : length (padded m) / 64 ≡ (n + 8) / 64 + 1 = omega arith in
-    ap (λ (j : ℕ). bytesOf (blocksDone (padded m) j)) k
+    ap (λ (j : ℕ). bytesOf (blocksDone (padded m) j) 8) k

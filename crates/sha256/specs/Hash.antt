@@ -49,12 +49,11 @@ blocksDone bs (suc n) = compressed (blocksDone bs n) (wordsFrom bs (16 * n) 16)
 abbrev pub wordBytes : ℕ → List ℕ
 wordBytes w = (w / 2 ^ 24 % 256) ∷ (w / 2 ^ 16 % 256) ∷ (w / 2 ^ 8 % 256) ∷ (w % 256) ∷ []
 
--- a hash value as bytes
-abbrev pub bytesOf : List ℕ → List ℕ
-bytesOf s =
-    wordBytes (getD s 0 0) ++ (wordBytes (getD s 1 0) ++ (wordBytes (getD s 2 0) ++ (wordBytes (getD s 3 0) ++
-    (wordBytes (getD s 4 0) ++ (wordBytes (getD s 5 0) ++ (wordBytes (getD s 6 0) ++ wordBytes (getD s 7 0)))))))
+-- the first n words of a hash value as bytes
+unfoldable pub bytesOf : List ℕ → ℕ → List ℕ
+bytesOf s zero = []
+bytesOf s (suc n) = bytesOf s n ++ wordBytes (getD s n 0)
 
 -- the digest of a message of bytes
 unfoldable pub digest : List ℕ → List ℕ
-digest m = let bs = padded m in bytesOf (blocksDone bs (length bs / 64))
+digest m = let bs = padded m in bytesOf (blocksDone bs (length bs / 64)) 8

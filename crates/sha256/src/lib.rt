@@ -16,51 +16,17 @@ const TOO_MANY: usize = 1 << 63;
 
 // The hash value as bytes.
 fn to_bytes(hash: [u32; 8]) -> [u8; 32]
-    ensures { λ r. ⌜ r ≡ bytesOf hash ⌝ }
+    ensures { λ r. ⌜ r ≡ bytesOf hash 8 ⌝ }
 {
-    let [a, b, c, d, e, f, g, h] = hash;
-    let [a0, a1, a2, a3] = a.to_be_bytes();
-    let [b0, b1, b2, b3] = b.to_be_bytes();
-    let [c0, c1, c2, c3] = c.to_be_bytes();
-    let [d0, d1, d2, d3] = d.to_be_bytes();
-    let [e0, e1, e2, e3] = e.to_be_bytes();
-    let [f0, f1, f2, f3] = f.to_be_bytes();
-    let [g0, g1, g2, g3] = g.to_be_bytes();
-    let [h0, h1, h2, h3] = h.to_be_bytes();
-    [
-        a0,
-        a1,
-        a2,
-        a3,
-        b0,
-        b1,
-        b2,
-        b3,
-        c0,
-        c1,
-        c2,
-        c3,
-        d0,
-        d1,
-        d2,
-        d3,
-        e0,
-        e1,
-        e2,
-        e3,
-        f0,
-        f1,
-        f2,
-        f3,
-        g0,
-        g1,
-        g2,
-        g3,
-        h0,
-        h1,
-        h2,
-        h3,
-    ]
+    let mut bytes = [0; 32];
+    for i in 0..8 {
+        let [a, b, c, d] = hash[i].to_be_bytes();
+        bytes[4 * i] = a;
+        bytes[4 * i + 1] = b;
+        bytes[4 * i + 2] = c;
+        bytes[4 * i + 3] = d;
+    }
+    bytes
 }
 
 // The hash value after all blocks of `a` and then `b`.

@@ -1,0 +1,4 @@
+-- Lemmas of the steps of SHA-256 and of its padding.
+mod Steps
+mod Zones
+mod Nine

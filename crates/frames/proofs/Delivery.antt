@@ -1,17 +1,16 @@
 -- The promise of a frame: of at most k + 1 speakers each one's message is what is read.
 -- Idea: the words heard of it are sound and enough, and its own message fits them; so reading cannot answer otherwise, and one message only fits.
--- delivered. Assumes nothing.
+-- answered, delivered. Assumes nothing.
 use mathlib.Core.Path.{_≡_, refl, ap, sym, _∙_, subst}
 use mathlib.Core.List.{List, List·Memᴰ}
 use Prim.Native.Nat.{ℕ}
 use native.Mathlib.Omega.{arith}
 use lib.Dec.{T}
 use lib.ListN.{length}
-use Rattle.messages.specs.Made.{Fits, Made, readOf}
+use Rattle.messages.specs.Made.{Cleared, Made, readOf}
 use Rattle.messages.specs.declared.listen.Reading.{Reading}
 use Rattle.frames.specs.declared.slot.Slot.{Slot}
-use Rattle.frames.specs.Slots.{Hears}
-use Rattle.frames.specs.Heard.{Delivered, wordsFrom}
+use Rattle.frames.specs.Heard.{Answered, Delivered, wordsFrom}
 use Rattle.frames.proofs.Own.{words-heard}
 use Rattle.speakall.specs.Code.{Read}
 use Rattle.speakall.specs.Frame.{Speaker, Word, got}
@@ -31,13 +30,18 @@ module _ (c : Channel) (good : Good c) (ss : List Speaker) (frame : Frame c ss) 
   own-read Read.Doubtful m =
       absurd (m .1 (own-sound (c .q) ss s here 0 (c .q) (c .q) (omega arith)) (s .message) (record { long = frame .plans s here .1; small = small; on = own-agrees (c .q) ss s here 0 (c .q) }))
 
-pub delivered : (c : Channel) → Good c → (slots : List Slot) (f : Plan) (ws : List Word) (a : Reading) (after : List ℕ) → ws ≡ wordsFrom c slots f 0 (c .q) → Made (c .q) (length after) ws (readOf a after) →
-    Delivered c slots f a after
-delivered c good slots f ws a after e made ss hears frame s here plan small long =
-    let heard : ws ≡ got c ss (s .plan) = e ∙ words-heard c ss slots f (omega (arith, good .1, good .2)) hears 0 (c .q) (omega arith) ∙ ap (got c ss) (sym plan) in
-    let at-size = subst (λ (n : ℕ). Made (c .q) n ws (readOf a after)) long made in
-    record {
-      read = own-read c good ss frame s here small (readOf a after) (subst (λ (l : List Word). Made (c .q) (size c) l (readOf a after)) heard at-size);
-      enough = often-alone c good ss frame s here;
-      only = one-message c good ss frame s here;
-    }
+module _ (c : Channel) (slots : List Slot) (f : Plan) (ws : List Word) (a : Reading) (before after : List ℕ) (words : ws ≡ wordsFrom c slots f 0 (c .q)) (long : length after ≡ length before)
+    (made : Made (c .q) (length before) ws (readOf a after)) where
+  -- the answer to the words that are in the slots
+  pub answered : Cleared a after → Answered c (wordsFrom c slots f 0 (c .q)) a before after
+  answered cleared = record { long = long; made = subst (λ (l : List Word). Made (c .q) (length before) l (readOf a after)) words made; cleared = cleared }
+
+  pub delivered : Good c → Delivered c slots f a after
+  delivered good ss hears frame s here plan small size-after =
+      let heard : ws ≡ got c ss (s .plan) = words ∙ words-heard c ss slots f (omega (arith, good .1, good .2)) hears 0 (c .q) (omega arith) ∙ ap (got c ss) (sym plan) in
+      let at-size = subst (λ (n : ℕ). Made (c .q) n ws (readOf a after)) (sym long ∙ size-after) made in
+      record {
+        read = own-read c good ss frame s here small (readOf a after) (subst (λ (l : List Word). Made (c .q) (size c) l (readOf a after)) heard at-size);
+        enough = often-alone c good ss frame s here;
+        only = one-message c good ss frame s here;
+      }

@@ -1,17 +1,12 @@
 -- A number's digits, one after the other, and the value of a plan, from its highest digit down.
--- Written, written-none, written-more, written-all, digits-below, slot-lower, slot-none. Assumes nothing.
-use mathlib.Core.Path.{_≡_, refl, ap, subst, _∙_, sym}
-use mathlib.Core.Bool.{true, _&&_}
+-- Written, written-none, written-more, written-all, slot-lower, slot-none. Assumes nothing.
+use mathlib.Core.Path.{_≡_, ap, _∙_, sym}
 use mathlib.Core.List.{List, [], _∷_, _++_}
-use Prim.Native.Nat.{ℕ, zero, suc, _+_, _*_, _-_, _/_, _%_, _<_, _≤_}
+use Prim.Native.Nat.{ℕ, suc, _+_, _*_, _-_, _/_, _%_, _<_, _≤_}
 use native.Mathlib.Omega.{arith}
-use native.Mathlib.Nat.{mod-lt}
-use lib.Dec.{T, ltb}
 use lib.ListN.{length, getD, take, drop, set}
 use Rattle.std.proofs.shelf.Lists.{append-assoc, take-more-set, at-drop-more, at-drop-all, append-nil, length-take, getD-take}
-use Rattle.std.proofs.shelf.Tests.{lt-ltb, and-from}
-use Rattle.speakall.specs.Plan.{below, digits, slotAt}
-use Rattle.channels.proofs.Facts.{holds}
+use Rattle.speakall.specs.Plan.{digits, slotAt}
 
 -- the invariant of the loop over the digits: those written, and then those of what is left of the number, are all
 pub Written : (q n count i rest : ℕ) → List ℕ → Type 0
@@ -34,12 +29,6 @@ unfolding Written digits
 written-all q n count i rest ds h w =
     let e : count - i ≡ 0 = omega arith in
     sym (append-nil (take i ds)) ∙ ap (λ m. take i ds ++ digits q rest m) (sym e) ∙ w
-
--- digits are below the base
-pub digits-below : (q n count : ℕ) → 0 < q → T (below q (digits q n count))
-unfolding digits below
-digits-below q n zero h = tt
-digits-below q n (suc count) h = rw (lt-ltb (n % q) q (mod-lt n h)) (digits-below q (n / q) count h)
 
 -- one digit lower: that digit and the part times the value of the digits above it
 pub slot-lower : (q x i count v : ℕ) (ds : List ℕ) → 0 < i → i ≤ count → count ≤ length ds → v ≡ slotAt q (drop i (take count ds)) x →

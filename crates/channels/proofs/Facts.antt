@@ -1,6 +1,6 @@
 -- What follows of a channel's numbers.
--- pow-fits, true-from, holds, fit-from-test, test-from-valid, channel-good. Assumes nothing.
-use mathlib.Core.Path.{_≡_, refl}
+-- pow-fits, fit-from-test, test-from-valid, channel-good. Assumes nothing.
+use mathlib.Core.Path.{_≡_, refl, sym}
 use mathlib.Core.Bool.{Bool, true, false, _&&_, _||_}
 use mathlib.Core.List.{List, [], _∷_}
 use Prim.Native.Nat.{ℕ, _+_, _*_, _-_, _^_, _<_, _≤_}
@@ -12,6 +12,7 @@ use mathlib.Core.Logic.{⊎-elim}
 use Rattle.speakall.specs.Plan.{Good, listed, sides}
 use Rattle.channels.specs.declared.channel.Channel.{Channel}
 use Rattle.channels.specs.Settings.{settings}
+use Rattle.speakall.proofs.Truth.{from-true, true-from}
 use Rattle.channels.specs.Valid.{Fit, Valid, isValid}
 
 -- four digits of a byte fit 32 bits
@@ -20,14 +21,6 @@ pow-fits q d h e =
     let a : q ^ d ≤ 255 ^ d = pow-le-pow-left (omega arith) d in
     let b : 255 ^ d ≤ 255 ^ 4 = pow-le-pow-right {n = 255} (lit≤ tt) e in
     omega arith
-
-pub true-from : (b : Bool) → T b → b ≡ true
-true-from true t = refl
-true-from false t = absurd t
-
-pub holds : (b : Bool) → b ≡ true → T b
-holds true e = tt
-holds false e = let z : _≡_ {A = Bool} false true = e in let y : _≡_ {A = ℕ} 0 1 = cc in absurd (omega arith)
 
 -- a number in a list all of whose numbers lie between two lies between them
 within : ℕ → ℕ → List ℕ → Bool
@@ -60,7 +53,7 @@ fit-from-test q d k v =
     let spare = ltb-true (k * (d - 1)) q (b .1) in
     let held = leb-true (q ^ d) 65536 (a .1) in
     record {
-      good = ((holds (listed q sides) (g .0), some, enough, spare, w .1, held), few);
+      good = ((from-true (listed q sides) (sym (g .0)), some, enough, spare, w .1, held), few);
       valid = v;
       side = g .0;
       wide = w .0;

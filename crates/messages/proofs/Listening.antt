@@ -16,10 +16,7 @@ use lib.Dec.{T, lit≤, lt→ltb, ltb, ltb→lt}
 use lib.ListN.{length, drop, take}
 use mir.Facts.{and-yes, yes-and}
 use native.Mathlib.Omega.{arith}
-
-pub from-true : (b : Bool) → true ≡ b → T b
-from-true true e = tt
-from-true false e = subst T e tt
+use Rattle.speakall.proofs.Truth.{from-true}
 
 pub not-false : (b : Bool) → false ≡ b → T b → ⊥
 not-false b e t = subst T (sym e) t

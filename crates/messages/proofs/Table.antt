@@ -1,6 +1,6 @@
 -- The table of inverses modulo p: one computed test of the whole table, what it says of each entry, and the inverse of a difference of either sign.
-use mathlib.Core.Path.{_≡_, refl, ap}
-use mathlib.Core.Bool.{Bool, true, false, _&&_}
+use mathlib.Core.Path.{_≡_, ap}
+use mathlib.Core.Bool.{Bool, true, _&&_}
 use mathlib.Core.List.{List, [], _∷_}
 use Prim.Native.Nat.{ℕ, zero, suc, _+_, _-_, _*_, _%_, _<_, _≤_}
 use Rattle.speakall.specs.Frame.{p}
@@ -8,6 +8,7 @@ use Rattle.std.proofs.shelf.Tests.{and-parts, eqb-true, ltb-true}
 use lib.Dec.{T, eqb, ltb}
 use lib.ListN.{length, getD}
 use native.Mathlib.Omega.{arith}
+use Rattle.speakall.proofs.Truth.{true-from}
 
 -- the numbers are the inverses of a, a + 1, ..
 abbrev pub inverses-from : ℕ → List ℕ → Bool
@@ -21,10 +22,6 @@ at a (v ∷ vs) zero b t h e =
     let both = and-parts (ltb v p) (eqb ((a * v) % p) 1) (and-parts (ltb v p && eqb ((a * v) % p) 1) (inverses-from (a + 1) vs) t .0) in
     (ltb-true v p (both .0), rw f (eqb-true ((a * v) % p) 1 (both .1)))
 at a (v ∷ vs) (suc k) b t h e = at (a + 1) vs k b (and-parts (ltb v p && eqb ((a * v) % p) 1) (inverses-from (a + 1) vs) t .1) (omega arith) (omega arith)
-
-true-from : (b : Bool) → T b → b ≡ true
-true-from true t = refl
-true-from false t = absurd t
 
 pub inverse-at : (vs : List ℕ) (a : ℕ) → T (inverses-from 1 vs && eqb (length vs) 250) → 0 < a → a < 251 → (getD vs (a - 1) 0 < p) × ((a * getD vs (a - 1) 0) % p ≡ 1)
 inverse-at vs a t g h =

@@ -1,4 +1,5 @@
 -- Lemmas and proofs of the statements.
+pub mod Truth
 pub mod Members
 pub mod Modulo
 pub mod Polynomial

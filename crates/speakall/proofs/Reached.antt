@@ -25,7 +25,7 @@ unfolding digits
 length-digits q n zero = refl
 length-digits q n (suc count) = ap suc (length-digits q (n / q) count)
 
-below-digits : (q n count : ℕ) → 0 < q → T (below q (digits q n count))
+pub below-digits : (q n count : ℕ) → 0 < q → T (below q (digits q n count))
 unfolding digits below
 below-digits q n zero h = tt
 below-digits q n (suc count) h = yes-and _ _ (lt→ltb (n % q) q (mod-lt n h)) (below-digits q (n / q) count h)

@@ -2,7 +2,8 @@
 use mathlib.Core.Path.{_≡_, refl, sym, ap, _∙_}
 use mathlib.Core.List.{List}
 use Prim.Native.Nat.{ℕ, _-_, _≤_}
-use Rattle.messages.proofs.Listening.{found, from-true, length-wordsIn, none, not-false}
+use Rattle.messages.proofs.Listening.{found, length-wordsIn, none, not-false}
+use Rattle.speakall.proofs.Truth.{from-true}
 use Rattle.messages.proofs.Sound.{sound-take}
 use Rattle.messages.proofs.listen.read.Needs as need
 use Rattle.messages.specs.declared.words.PartWord.{PartWord}

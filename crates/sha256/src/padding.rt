@@ -1,4 +1,5 @@
-// A message of two slices, one after the other, padded to whole blocks: its bytes and words by their index, so that no buffer is filled.
+// A message of two slices, one after the other, padded to whole blocks.
+// Its bytes and words are given by their index, so that no buffer is filled.
 ghost use Prim.Native.Nat.{_+_, _*_, _/_, _<_, _^_};
 ghost use Rattle.sha256.specs.Padding.{lengthField, padded, padding as paddingOf, wordAt, wordsFrom, zeros as zerosAfter};
 ghost use lib.ListN.{getD, length, take};

@@ -1,4 +1,5 @@
 // What is done with one block of 64 bytes: its schedule of 64 words, and 64 rounds on the hash value.
+// Sums are modulo 2^32, and in the standard's order.
 ghost use Prim.Native.Nat.{_+_, _<_};
 ghost use Rattle.sha256.specs.Functions.{Ch, Maj, bigSigma0, bigSigma1, sigma0, sigma1};
 ghost use Rattle.sha256.specs.Hash.{compressed, nextWord, roundOn, rounds, schedule, sums};

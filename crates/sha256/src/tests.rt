@@ -1,4 +1,5 @@
-// The standard's examples, and messages on each side of a block's end, whose digests were worked out by another program.
+// The standard's examples, and messages on each side of a block's end.
+// The digests were worked out by another program.
 use crate::sha256;
 use crate::sha256_of_two;
 use crate::sum;

@@ -1,4 +1,5 @@
-// A word on the air, and its twelve bytes.
+// A word on the air, and its twelve bytes, high byte first: the sender's number (3), the frame modulo 256 (1), the word (4),
+// and the first four bytes of SHA-256 over these eight and the part.
 ghost use Prim.Native.Nat.{_<_, _^_, _≤_};
 ghost use Rattle.channels.specs.Settings.{settings};
 ghost use Rattle.channels.specs.declared.fault.Fault.the-variants.{Sender as FaultSender};
@@ -16,6 +17,7 @@ pub struct AirWord {
     pub sender: u32,
     // The frame, modulo 256.
     pub frame: u8,
+    // The value of the sender's message in a part.
     pub word: u32,
     // The number has three bytes on the air.
     ghost narrow: { sender < 2 ^ 24 },

@@ -1,4 +1,5 @@
 // What a listener makes of twelve bytes heard in a slot: a sender's word that counts, or noise.
+// They count where they are the bytes of the word of a sender that is there, and that speaks in that slot by its plan.
 ghost use Prim.Native.Nat.{ℕ, _%_, _<_};
 ghost use Rattle.channels.specs.Settings.{settings};
 ghost use Rattle.speakall.specs.Frame.{p};

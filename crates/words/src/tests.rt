@@ -1,4 +1,5 @@
-// Worked words, whose bytes were worked out by another program, and each cause for noise at its border.
+// Worked words, and each cause for noise at its border.
+// The bytes of the worked words were worked out by another program.
 use crate::AirWord;
 use crate::Counted;
 use crate::counted::CountedDebug;

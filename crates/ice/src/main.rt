@@ -40,7 +40,12 @@ fn grid(heap: Global, q: u8, frame: &Frame, numbers: &[u32]) -> Result<Vec<Strin
 }
 
 // What is heard of each sender, and what is read.
-fn readings(heap: Global, channel: Channel, frame: &Frame, numbers: &[u32]) -> Result<Vec<String>, Fault> {
+fn readings(
+    heap: Global,
+    channel: Channel,
+    frame: &Frame,
+    numbers: &[u32],
+) -> Result<Vec<String>, Fault> {
     let mut lines = Vec::new(heap);
     let mut message = vec![in heap; 0; channel.numbers() as usize]?;
     for number in numbers {
@@ -91,7 +96,11 @@ fn correct(rt: &LibcRuntime, misuse: Misuse, texts: &[String]) -> Result<(), Any
 }
 
 // The frame is shown, or told why there is none.
-fn frame(rt: &LibcRuntime, channel: Result<Channel, Fault>, spoken: &[Spoken]) -> Result<(), AnyError> {
+fn frame(
+    rt: &LibcRuntime,
+    channel: Result<Channel, Fault>,
+    spoken: &[Spoken],
+) -> Result<(), AnyError> {
     let fault = match channel {
         Ok(channel) => match sections(rt.alloc(), channel, spoken) {
             Ok(sections) => return show(rt, channel, sections),

@@ -28,3 +28,6 @@ pub use request::read_words;
 pub use speakers::channel_of;
 pub use speakers::numbers_of;
 pub use speakers::speakers_of;
+
+#[cfg(test)]
+mod tests;

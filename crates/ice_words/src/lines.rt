@@ -1,4 +1,11 @@
 // The lines of the senders: in which slots each speaks, what is heard of each and what is read.
+ghost use Rattle.channels.specs.Plans.{planIn};
+ghost use Rattle.channels.specs.Settings.{settings};
+ghost use Rattle.ice_words.specs.Lines.{plannedText, slotsTo, spacedOf};
+ghost use Rattle.std.specs.Of.String.{string-bytes};
+ghost use Rattle.std.specs.Of.Vec.{vec-items};
+ghost use Rattle.std.specs.Vec.{made};
+ghost use mathlib.Core.Path.{_≡_};
 use crate::marks::letter;
 use channels::Channel;
 use channels::Fault;
@@ -10,7 +17,9 @@ use std::alloc::AllocError;
 use std::alloc::Global;
 
 // The numbers, with a space before each.
-fn spaced(heap: Global, numbers: &[u32]) -> Result<String, AllocError> {
+fn spaced(heap: Global, numbers: &[u32]) -> Result<String, AllocError>
+    ensures { λ r. ⌜ made r (λ s. string-bytes s ≡ spacedOf (now (numbers .entry))) ⌝ }
+{
     let mut text = String::new(heap);
     for n in numbers {
         let one = format!(heap, " {n}")?;
@@ -20,18 +29,29 @@ fn spaced(heap: Global, numbers: &[u32]) -> Result<String, AllocError> {
 }
 
 // The slots of a plan, part by part.
-fn slots_of(heap: Global, plan: Plan, q: u8) -> Result<Vec<u32>, AllocError> {
+fn slots_of(heap: Global, plan: Plan, q: u8) -> Result<Vec<u32>, AllocError>
+    requires { ⌜ plan .q ≡ q ⌝ }
+    ensures { λ r. ⌜ made r (λ v. vec-items v ≡ slotsTo q (planIn plan) q) ⌝ }
+{
     let mut slots = Vec::new(heap);
     for part in 0..q {
-        if let Some(slot) = plan.slot(part) {
-            slots.push(u32::from(slot))?;
-        }
+        let Some(slot) = plan.slot(part) else {
+            return Ok(slots);
+        };
+        slots.push(u32::from(slot))?;
     }
     Ok(slots)
 }
 
 // A sender with its letter and its plan, as `a  sender 7: slots 2 3 4 0 1`.
-pub fn planned(heap: Global, channel: Channel, numbers: &[u32], number: u32) -> Result<String, Fault> {
+pub fn planned(
+    heap: Global,
+    channel: Channel,
+    numbers: &[u32],
+    number: u32,
+) -> Result<String, Fault>
+    ensures { λ r. ⌜ made r (λ s. string-bytes s ≡ plannedText (settings channel) (now (numbers .entry)) number) ⌝ }
+{
     let plan = Plan::of(channel, number)?;
     let slots = slots_of(heap, plan, channel.parts())?;
     let slots = spaced(heap, &slots)?;

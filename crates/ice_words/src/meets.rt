@@ -1,4 +1,9 @@
 // In how many parts of a frame senders meet: every two of a few, and of many the two that meet most.
+ghost use Rattle.channels.specs.Settings.{settings};
+ghost use Rattle.ice_words.specs.Lines.{meetingText, meetsIn, partsOf};
+ghost use Rattle.std.specs.Vec.{made};
+ghost use Rattle.std.specs.declared.option.Option.the-variants.{Some};
+ghost use mathlib.Core.Path.{_≡_};
 use channels::Channel;
 use channels::Fault;
 use channels::Plan;
@@ -11,7 +16,9 @@ use std::fmt;
 const FEW: usize = 12;
 
 // `part` or `parts`, as the count asks.
-fn parts(count: u8) -> &'static str {
+fn parts(count: u8) -> &'static str
+    ensures { λ r. ⌜ now r ≡ partsOf count ⌝ }
+{
     if count == 1 { "part" } else { "parts" }
 }
 
@@ -24,13 +31,18 @@ pub struct Meeting {
 }
 
 impl Meeting {
-    pub fn of(channel: Channel, one: u32, other: u32) -> Result<Meeting, Fault> {
-        let count = Plan::of(channel, one)?.meets(Plan::of(channel, other)?);
+    pub fn of(channel: Channel, one: u32, other: u32) -> Result<Meeting, Fault>
+        ensures { λ r. ⌜ made r (λ m. (m .one ≡ one) × (m .other ≡ other) × (m .count ≡ meetsIn (settings channel) one other)) ⌝ }
+    {
+        let plan = Plan::of(channel, one)?;
+        let count = plan.meets(Plan::of(channel, other)?);
         Ok(Meeting { one, other, count })
     }
 }
 
 pub impl fmt::Display for Meeting as MeetingDisplay {
+    ghost shown = { λ m. Some (meetingText m) };
+
     fn fmt<W: fmt::Write>(&self, f: &mut fmt::Formatter<W>) -> fmt::Result {
         let Meeting { one, other, count } = *self;
         let parts = parts(count);
@@ -60,7 +72,13 @@ fn most(channel: Channel, numbers: &[u32]) -> Result<u8, Fault> {
 }
 
 // A line for a sender and each of the others.
-fn meet_with(heap: Global, channel: Channel, number: u32, others: &[u32], lines: &mut Vec<String>) -> Result<(), Fault> {
+fn meet_with(
+    heap: Global,
+    channel: Channel,
+    number: u32,
+    others: &[u32],
+    lines: &mut Vec<String>,
+) -> Result<(), Fault> {
     for other in others {
         let meeting = Meeting::of(channel, number, *other)?;
         lines.push(format!(heap, "{meeting}")?)?;
@@ -69,7 +87,12 @@ fn meet_with(heap: Global, channel: Channel, number: u32, others: &[u32], lines:
 }
 
 // A line for every two of the senders.
-fn every_two(heap: Global, channel: Channel, numbers: &[u32], lines: &mut Vec<String>) -> Result<(), Fault> {
+fn every_two(
+    heap: Global,
+    channel: Channel,
+    numbers: &[u32],
+    lines: &mut Vec<String>,
+) -> Result<(), Fault> {
     for (i, number) in numbers.iter().enumerate() {
         meet_with(heap, channel, *number, &numbers[i + 1..], lines)?;
     }

@@ -1,4 +1,9 @@
 // What is told of words that ask for nothing: which word is wrong, and what is wanted.
+ghost use Rattle.ice_words.specs.Lines.{Told, misuseText, placeOf};
+ghost use Rattle.std.specs.Of.String.{string-bytes};
+ghost use Rattle.std.specs.Vec.{made};
+ghost use Rattle.std.specs.declared.option.Option.the-variants.{Some};
+ghost use mathlib.Core.Path.{_≡_};
 use crate::request::Misuse;
 use std::alloc::AllocError;
 use std::alloc::Global;
@@ -16,7 +21,9 @@ Example: ice frame 5 2 2 7=10,1,0 17=3,1,4 12
 
 impl Misuse {
     // The place of the word that is wrong, from 0.
-    fn place(self) -> Option<usize> {
+    fn place(self) -> Option<usize>
+        ensures { λ r. ⌜ r ≡ placeOf self ⌝ }
+    {
         match self {
             Misuse::Unknown(i)
             | Misuse::NoNumber(i)
@@ -29,6 +36,8 @@ impl Misuse {
 }
 
 pub impl fmt::Display for Misuse as MisuseDisplay {
+    ghost shown = { λ m. Some (misuseText m) };
+
     fn fmt<W: fmt::Write>(&self, f: &mut fmt::Formatter<W>) -> fmt::Result {
         match *self {
             Misuse::Nothing => write!(f, "no words; --help tells which are wanted"),
@@ -47,7 +56,9 @@ pub impl fmt::Display for Misuse as MisuseDisplay {
 }
 
 // The line for the user, with the word that is wrong where there is one.
-pub fn told(heap: Global, misuse: Misuse, texts: &[String]) -> Result<String, AllocError> {
+pub fn told(heap: Global, misuse: Misuse, texts: &[String]) -> Result<String, AllocError>
+    ensures { λ r. ⌜ made r (λ s. Told (now (texts .entry)) misuse (string-bytes s)) ⌝ }
+{
     let Some(i) = misuse.place() else {
         return format!(heap, "ice: {misuse}");
     };

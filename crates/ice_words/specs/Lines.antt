@@ -1,9 +1,10 @@
 -- The lines of the senders, and what is told of words that ask for nothing.
--- spacedOf, slotsTo, plannedText, meetsIn, meetingText, misuseText, placeOf, Told. Assumes nothing.
+-- spacedOf, slotsTo, plannedText, readText, Numbered, meetsIn, meetingText, misuseText, placeOf, Told. Assumes nothing.
 use mathlib.Core.Path.{_≡_}
 use mathlib.Core.List.{List, [], _∷_, _++_}
 use mathlib.Core.Bool.{cond}
-use Prim.Native.Nat.{ℕ, zero, suc, _<_}
+use mathlib.Core.Logic.{_⊎_}
+use Prim.Native.Nat.{ℕ, zero, suc, _<_, _≤_}
 use lib.Chars.{codes}
 use lib.Dec.{eqb}
 use lib.ListN.{length, getD}
@@ -11,10 +12,15 @@ use lib.Utf8.{encode}
 use Rattle.std.specs.declared.alloc.Global.{Global}
 use Rattle.std.specs.declared.option.Option.{Option}
 use Rattle.std.specs.declared.option.Option.the-variants.{Some, None}
+use Rattle.std.specs.declared.result.Result.{Result}
+use Rattle.std.specs.declared.result.Result.the-variants.{Ok, Err}
 use Rattle.std.specs.declared.string.String.{String}
 use Rattle.std.specs.Of.String.{string-bytes}
 use Rattle.std.specs.Options.{Cases}
 use Rattle.std.specs.Written.{decimal}
+use Rattle.messages.specs.declared.listen.Reading.{Reading}
+use Rattle.messages.specs.declared.listen.Reading.the-variants as reading
+use Rattle.plan_words.specs.Words.{IsNumber, numberOf}
 use Rattle.speakall.specs.Plan.{Channel, Plan, planOf, slotAt}
 use Rattle.speakall.specs.Promise.{meet}
 use Rattle.ice_words.specs.Marks.{letterOf, letters}
@@ -37,9 +43,24 @@ abbrev pub plannedText : Channel → (numbers : List ℕ) → ℕ → List ℕ
 plannedText c ns n =
     encode (letterOf n ns letters) ++ (codes "  sender " ++ (decimal n ++ (codes ": slots" ++ spacedOf (slotsTo (c .q) (planOf c n) (c .q)))))
 
+-- so many words, for as many numbers
+abbrev pub wordsOf : ℕ → List ℕ
+wordsOf n = cond (eqb n 1) (codes " word for ") (codes " words for ")
+
 -- in how many parts two senders have one slot
 abbrev pub meetsIn : Channel → (one other : ℕ) → ℕ
 meetsIn c a b = meet (c .q) (slotAt (c .q) (planOf c a)) (slotAt (c .q) (planOf c b)) (c .q)
+
+-- what is made of a sender's words: its message, or why there is none
+abbrev pub readText : Reading → List ℕ → List ℕ
+readText (reading.TooFew n) m = codes "  too few (6): " ++ (decimal n ++ (wordsOf n ++ (decimal (length m) ++ codes " numbers")))
+readText (reading.Message n o) m = codes "  read:" ++ spacedOf m
+readText reading.Doubtful m = codes "  doubtful (7)"
+
+-- the number in a place of the words, or why there is none
+abbrev pub Numbered : List (String Global) → ℕ → Result ℕ Misuse → Type 0
+Numbered texts i (Ok n) = (s : String Global) → (i < length texts) × IsNumber (string-bytes (getD texts i s)) × (numberOf (string-bytes (getD texts i s)) ≡ n)
+Numbered texts i (Err m) = ((m ≡ NoNumber i) × (i < length texts)) ⊎ ((m ≡ TooFew (length texts)) × (length texts ≤ i))
 
 abbrev pub partsOf : ℕ → List ℕ
 partsOf n = cond (eqb n 1) (codes "part") (codes "parts")

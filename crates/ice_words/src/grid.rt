@@ -15,7 +15,8 @@ use std::alloc::AllocError;
 use std::alloc::Global;
 
 // What the signs mean.
-pub const SIGNS: &str = "    .  silence    #  two or more    a letter  that sender alone";
+pub const SIGNS: &str =
+    "    .  silence    #  two or more    a letter  that sender alone (? past the 52nd)";
 
 // The blanks that bring a number below 1000 to three places.
 fn blanks(y: u8) -> &'static str

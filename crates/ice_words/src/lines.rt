@@ -1,7 +1,7 @@
 // The lines of the senders: in which slots each speaks, what is heard of each and what is read.
 ghost use Rattle.channels.specs.Plans.{planIn};
 ghost use Rattle.channels.specs.Settings.{settings};
-ghost use Rattle.ice_words.specs.Lines.{plannedText, slotsTo, spacedOf};
+ghost use Rattle.ice_words.specs.Lines.{plannedText, readText, slotsTo, spacedOf, wordsOf};
 ghost use Rattle.std.specs.Of.String.{string-bytes};
 ghost use Rattle.std.specs.Of.Vec.{vec-items};
 ghost use Rattle.std.specs.Vec.{made};
@@ -87,12 +87,23 @@ pub fn heard(heap: Global, number: u32, words: &[PartWord]) -> Result<String, Al
     }
 }
 
+// What stands between a count of words and a count of numbers.
+fn words_for(n: usize) -> &'static str
+    ensures { λ r. ⌜ now r ≡ wordsOf n ⌝ }
+{
+    if n == 1 { " word for " } else { " words for " }
+}
+
 // What is made of a sender's words, as `  read: 10 1 0`, `  too few (6): 2 words for 3 numbers` or `  doubtful (7)`.
-pub fn read(heap: Global, reading: Reading, message: &[u32]) -> Result<String, AllocError> {
+pub fn read(heap: Global, reading: Reading, message: &[u32]) -> Result<String, AllocError>
+    ensures { λ r. ⌜ made r (λ s. string-bytes s ≡ readText reading (now (message .entry))) ⌝ }
+{
     let size = message.len();
     match reading {
-        Reading::TooFew(1) => format!(heap, "  too few (6): 1 word for {size} numbers"),
-        Reading::TooFew(n) => format!(heap, "  too few (6): {n} words for {size} numbers"),
+        Reading::TooFew(n) => {
+            let words = words_for(n);
+            format!(heap, "  too few (6): {n}{words}{size} numbers")
+        }
         Reading::Message { .. } => {
             let numbers = spaced(heap, message)?;
             format!(heap, "  read:{numbers}")

@@ -1,4 +1,5 @@
 // What the arguments ask for: `frame`, the channel's three numbers, and then a word for each sender.
+ghost use Rattle.ice_words.specs.Lines.{Numbered};
 use std::alloc::AllocError;
 use std::alloc::Global;
 use std::alloc::Refused;
@@ -63,7 +64,9 @@ fn asks_help(texts: &[String]) -> bool {
 }
 
 // The number at a place of the words.
-fn number_at(texts: &[String], i: usize) -> Result<u64, Misuse> {
+fn number_at(texts: &[String], i: usize) -> Result<u64, Misuse>
+    ensures { λ r. ⌜ Numbered (now (texts .entry)) i r ⌝ }
+{
     let Some(text) = texts.get(i) else {
         return Err(Misuse::TooFew(texts.len()));
     };

@@ -1,5 +1,5 @@
 -- The lines of the senders, and what is told of words that ask for nothing.
--- spacedOf, slotsTo, plannedText, readText, Numbered, meetsIn, meetingText, misuseText, placeOf, Told. Assumes nothing.
+-- spacedOf, slotsTo, plannedText, readText, Numbered, Asked, meetsIn, meetingText, misuseText, placeOf, Told. Assumes nothing.
 use mathlib.Core.Path.{_≡_}
 use mathlib.Core.List.{List, [], _∷_, _++_}
 use mathlib.Core.Bool.{cond}
@@ -25,6 +25,8 @@ use Rattle.speakall.specs.Plan.{Channel, Plan, planOf, slotAt}
 use Rattle.speakall.specs.Promise.{meet}
 use Rattle.ice_words.specs.Marks.{letterOf, letters}
 use Rattle.ice_words.specs.declared.meets.Meeting.{Meeting}
+use Rattle.ice_words.specs.declared.request.Request.{Request}
+use Rattle.ice_words.specs.declared.request.Request.the-variants.{Help, Frame}
 use Rattle.ice_words.specs.declared.request.Misuse.{Misuse}
 use Rattle.ice_words.specs.declared.request.Misuse.the-variants.{Nothing, Unknown, NoNumber, NoSender, NoMessage, Twice, TooFew, Memory}
 
@@ -61,6 +63,12 @@ readText reading.Doubtful m = codes "  doubtful (7)"
 abbrev pub Numbered : List (String Global) → ℕ → Result ℕ Misuse → Type 0
 Numbered texts i (Ok n) = (s : String Global) → (i < length texts) × IsNumber (string-bytes (getD texts i s)) × (numberOf (string-bytes (getD texts i s)) ≡ n)
 Numbered texts i (Err m) = ((m ≡ NoNumber i) × (i < length texts)) ⊎ ((m ≡ TooFew (length texts)) × (length texts ≤ i))
+
+-- a frame is asked for by five words or more, and its channel by the second to the fourth
+abbrev pub Asked : List (String Global) → Result Request Misuse → Type 0
+Asked texts (Ok Help) = Unit {0}
+Asked texts (Ok (Frame q d k spoken)) = (4 < length texts) × Numbered texts 1 (Ok q) × Numbered texts 2 (Ok d) × Numbered texts 3 (Ok k)
+Asked texts (Err m) = Unit {0}
 
 abbrev pub partsOf : ℕ → List ℕ
 partsOf n = cond (eqb n 1) (codes "part") (codes "parts")

@@ -1,5 +1,5 @@
 // What the arguments ask for: `frame`, the channel's three numbers, and then a word for each sender.
-ghost use Rattle.ice_words.specs.Lines.{Numbered};
+ghost use Rattle.ice_words.specs.Lines.{Asked, Numbered};
 use std::alloc::AllocError;
 use std::alloc::Global;
 use std::alloc::Refused;
@@ -124,7 +124,9 @@ fn all_spoken(heap: Global, texts: &[String]) -> Result<Vec<Spoken>, Misuse> {
 }
 
 // What the words ask for, or why they ask for nothing. `--help` among them gives help, whatever the others are.
-pub fn read_words(heap: Global, texts: &[String]) -> Result<Request, Misuse> {
+pub fn read_words(heap: Global, texts: &[String]) -> Result<Request, Misuse>
+    ensures { λ r. ⌜ Asked (now (texts .entry)) r ⌝ }
+{
     if asks_help(texts) {
         return Ok(Request::Help);
     }

@@ -51,7 +51,7 @@ fn readings(
     for number in numbers {
         let words = frame.words(heap, *number)?;
         lines.push(ice_words::heard(heap, *number, &words)?)?;
-        let reading = messages::read(channel, &words, &mut message);
+        let reading = frame.read(heap, *number, &mut message)?;
         lines.push(ice_words::read(heap, reading, &message)?)?;
     }
     Ok(lines)

@@ -12,7 +12,7 @@ use lib.ListN.{length, getD}
 use Rattle.std.proofs.shelf.Lists.{getD-default, getD-past}
 use Rattle.std.proofs.shelf.Tests.{and-parts, eqb-true, ltb-true, or-cases}
 use Rattle.speakall.specs.Plan.{listed, sides}
-use Rattle.channels.proofs.Facts.{true-from}
+use Rattle.speakall.proofs.Truth.{true-from}
 
 -- each number is below the next, and the last below e
 rising : ℕ → List ℕ → Bool

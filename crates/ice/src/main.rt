@@ -1,15 +1,15 @@
 // The program that shows one frame: `ice frame Q D K NUMBER[=A,B,..]..` prints who speaks, what is heard and what is read.
-// All that can be said of its answers is said by the contracts of `frames` and `ice_words`.
+// All that can be said of its answers is said by the contracts of `frames`, `ice_words` and `ice_lines`.
 use channels::Channel;
 use channels::Fault;
 use channels::fault::FaultDisplay;
 use channels::fault::FaultFromAlloc;
 use channels::fault::FaultFromRefused;
 use frames::Frame;
+use ice_lines::SIGNS;
 use ice_words::Misuse;
 use ice_words::MisusePartialEq;
 use ice_words::Request;
-use ice_words::SIGNS;
 use ice_words::Spoken;
 use ice_words::USAGE;
 use plan_words::Line;
@@ -24,16 +24,16 @@ use std::io::Write;
 fn plans(heap: Global, channel: Channel, numbers: &[u32]) -> Result<Vec<String>, Fault> {
     let mut lines = Vec::new(heap);
     for number in numbers {
-        lines.push(ice_words::planned(heap, channel, numbers, *number)?)?;
+        lines.push(ice_lines::planned(heap, channel, numbers, *number)?)?;
     }
     Ok(lines)
 }
 
 // The grid of the frame, under the numbers of the parts.
 fn grid(heap: Global, q: u8, frame: &Frame, numbers: &[u32]) -> Result<Vec<String>, Fault> {
-    let mut lines = ice_words::headers(heap, q)?;
+    let mut lines = ice_lines::headers(heap, q)?;
     for y in 0..q {
-        lines.push(ice_words::row(heap, frame, numbers, y)?)?;
+        lines.push(ice_lines::row(heap, frame, numbers, y)?)?;
     }
     lines.push(String::from_str(heap, SIGNS)?)?;
     Ok(lines)
@@ -50,9 +50,9 @@ fn readings(
     let mut message = vec![in heap; 0; channel.numbers() as usize]?;
     for number in numbers {
         let words = frame.words(heap, *number)?;
-        lines.push(ice_words::heard(heap, *number, &words)?)?;
+        lines.push(ice_lines::heard(heap, *number, &words)?)?;
         let reading = frame.read(heap, *number, &mut message)?;
-        lines.push(ice_words::read(heap, reading, &message)?)?;
+        lines.push(ice_lines::read(heap, reading, &message)?)?;
     }
     Ok(lines)
 }
@@ -64,7 +64,7 @@ fn sections(heap: Global, channel: Channel, spoken: &[Spoken]) -> Result<[Vec<St
     let numbers = ice_words::numbers_of(heap, &speakers)?;
     let plans = plans(heap, channel, &numbers)?;
     let grid = grid(heap, channel.parts(), &frame, &numbers)?;
-    let meetings = ice_words::meetings(heap, channel, &numbers)?;
+    let meetings = ice_lines::meetings(heap, channel, &numbers)?;
     let readings = readings(heap, channel, &frame, &numbers)?;
     Ok([plans, grid, meetings, readings])
 }

@@ -1,4 +1,3 @@
--- Lemmas of the signs of the grid and of the lines.
-pub mod Signs
-pub mod Spaced
+-- Lemmas of the speakers that the words ask for.
+pub mod Mapped
 pub mod Said

@@ -1,4 +1,3 @@
--- What the contracts of the program's words and lines cite.
-pub mod Marks
+-- What the contracts of the program's words cite.
 pub mod Wide
-pub mod Lines
+pub mod Words

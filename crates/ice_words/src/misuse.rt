@@ -1,5 +1,5 @@
 // What is told of words that ask for nothing: which word is wrong, and what is wanted.
-ghost use Rattle.ice_words.specs.Lines.{Told, misuseText, placeOf};
+ghost use Rattle.ice_words.specs.Words.{Told, misuseText, placeOf};
 ghost use Rattle.std.specs.Of.String.{string-bytes};
 ghost use Rattle.std.specs.Vec.{made};
 ghost use Rattle.std.specs.declared.option.Option.the-variants.{Some};

@@ -1,5 +1,5 @@
 // What the arguments ask for: `frame`, the channel's three numbers, and then a word for each sender.
-ghost use Rattle.ice_words.specs.Lines.{Asked, Numbered};
+ghost use Rattle.ice_words.specs.Words.{Asked, Numbered};
 use std::alloc::AllocError;
 use std::alloc::Global;
 use std::alloc::Refused;

@@ -1,14 +1,12 @@
-// Words that are refused, numbers too wide, speakers that cannot speak, and the lines of a frame.
+// Words that are refused, numbers too wide, and speakers that cannot speak.
 use super::*;
 use crate::request::MisuseDebug;
-use channels::Channel;
 use channels::Fault;
 use channels::channel::ChannelDebug;
 use channels::channel::ChannelPartialEq;
 use channels::fault::FaultDebug;
 use channels::fault::FaultPartialEq;
 use frames::Frame;
-use messages::Reading;
 use std::alloc::Global;
 use std::test::*;
 
@@ -94,27 +92,4 @@ fn refused_speakers(rt: LibcRuntime) -> Result<(), Fail> {
         }
     }
     Ok(())
-}
-
-#[test]
-fn lines_of_a_frame(rt: LibcRuntime) -> Result<(), Fail> {
-    let heap = rt.alloc();
-    let channel = Channel::new(5, 2, 2)?;
-    let mut frame = Frame::silent(heap, channel)?;
-    check_eq(frame.speak(7, &[10, 1, 0]), Ok(()))?;
-    check_eq(frame.speak(17, &[3, 1, 4]), Ok(()))?;
-    let numbers = [7, 17];
-    let words = frame.words(heap, 7)?;
-    check(planned(heap, channel, &numbers, 17)?.as_str() == "b  sender 17: slots 2 0 3 1 4")?;
-    check(row(heap, &frame, &numbers, 2)?.as_str() == "  2 # . . . .")?;
-    check(heard(heap, 7, &words)?.as_str() == "sender 7: 4 words, in parts 1 2 3 4: 11 12 13 14")
-}
-
-#[test]
-fn other_lines(rt: LibcRuntime) -> Result<(), Fail> {
-    let heap = rt.alloc();
-    check_eq(meetings(heap, Channel::new(5, 2, 2)?, &[7, 17])?.len(), 2)?;
-    check_eq(headers(heap, 251)?.len(), 3)?;
-    let line = read(heap, Reading::TooFew(2), &[0, 0, 0])?;
-    check(line.as_str() == "  too few (6): 2 words for 3 numbers")
 }

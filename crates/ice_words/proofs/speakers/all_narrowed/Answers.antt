@@ -1,6 +1,6 @@
 use Rattle.std.specs.Of.Vec.{vec-items}
 use Rattle.ice_words.specs.Wide.{narrow}
-use Rattle.ice_words.proofs.Spaced.{mapped-more, mapped-all}
+use Rattle.ice_words.proofs.Mapped.{mapped-more, mapped-all}
 use Rattle.ice_words.proofs.speakers.all_narrowed.Needs as need
 
 pub loop-n-again : need.loop-n-again

@@ -1,7 +1,7 @@
 use mathlib.Core.Path.{ap}
 use Rattle.std.specs.Of.Vec.{vec-items}
 use Rattle.ice_words.specs.Wide.{numberIn}
-use Rattle.ice_words.proofs.Spaced.{mapped-more, mapped-all}
+use Rattle.ice_words.proofs.Mapped.{mapped-more, mapped-all}
 use Rattle.ice_words.proofs.speakers.numbers_of.Needs as need
 
 pub loop-speaker-again : need.loop-speaker-again

@@ -1,4 +1,6 @@
 // What is heard in a frame, as records, and the records taken back for what was heard.
+#![tactic(auto)]
+
 mod back;
 mod records;
 pub mod whole;

@@ -1,5 +1,7 @@
 // Channels, the plans of their senders, and the faults that everything above refuses with.
 // A frame of a channel has q parts, numbered from 0, each with q slots, numbered from 0.
+#![tactic(auto)]
+
 pub mod channel;
 pub mod fault;
 pub mod inverses;

@@ -1,5 +1,7 @@
 // What the programs share: numbers among the words of a command line, the line that tells which word is wrong,
 // and the line of a channel.
+#![tactic(auto)]
+
 mod digits;
 mod line;
 mod wrong;

@@ -1,5 +1,7 @@
 // The program that shows one frame: `ice frame Q D K NUMBER[=A,B,..]..` prints who speaks, what is heard and what is read.
 // All that can be said of its answers is said by the contracts of `frames`, `ice_words` and `ice_lines`.
+#![tactic(auto)]
+
 use anyhow::anyhow;
 use channels::{Channel, Fault};
 use frames::Frame;

@@ -1,4 +1,6 @@
 // The grid of one frame, as the program `ice` shows it: a row for each slot's number, in it a sign for each part.
+#![tactic(auto)]
+
 mod grid;
 mod marks;
 

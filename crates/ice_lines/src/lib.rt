@@ -1,4 +1,6 @@
 // The lines with which the program `ice` shows one frame: its grid, its senders, where they meet and what is read.
+#![tactic(auto)]
+
 mod grid;
 mod lines;
 mod marks;

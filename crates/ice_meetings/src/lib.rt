@@ -1,4 +1,6 @@
 // In how many parts of a frame its senders meet, as the program `ice` tells it.
+#![tactic(auto)]
+
 mod meeting;
 mod told;
 

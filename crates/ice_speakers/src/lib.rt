@@ -1,5 +1,7 @@
 // From the numbers as they were written to a channel, and to the frame in which the senders speak.
 // A number wider than the calls take never becomes another that would be let through.
+#![tactic(auto)]
+
 mod heard;
 mod speakers;
 mod wide;

@@ -1,4 +1,6 @@
 // The words of the program `ice`: what its arguments ask for, or which of them is wrong.
+#![tactic(auto)]
+
 mod misuse;
 mod request;
 mod speakers;

@@ -1,5 +1,7 @@
 // Messages as words: what a sender says of its message in each part, and what a listener makes of the words heard of one sender.
 // A message is s numbers below 2^30, the coefficients of a polynomial, the constant first; all is worked out modulo the prime P.
+#![tactic(auto)]
+
 mod checks;
 mod inverses;
 pub mod listen;

@@ -1,4 +1,6 @@
 // Options, which may stand anywhere among the words of a command line: whether one is given, and the words without it.
+#![tactic(auto)]
+
 ghost use Rattle.command_words.specs.Wrong.{words_in};
 ghost use Rattle.options.specs.Options.{is_given, kept_word, without};
 ghost use Rattle.std.specs.Prelude.{◌≡◌, ◌++◌, IfOk, OnOk};

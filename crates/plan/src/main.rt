@@ -1,5 +1,7 @@
 // The program that chooses a channel: `plan SENDERS K NUMBERS` prints the best, and all that would do.
 // All that can be said of its answers is said by the contracts of `planning` and `plan_words`.
+#![tactic(auto)]
+
 use anyhow::anyhow;
 use channels::Fault;
 use plan_words::{Line, Misuse, Refusal, Request, USAGE};

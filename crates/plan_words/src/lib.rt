@@ -1,5 +1,7 @@
 // The words of the program `plan`: what its arguments ask for, and the lines that it answers with.
 // They stand apart from the program, so that contracts can say what they are.
+#![tactic(auto)]
+
 mod line;
 mod misuse;
 mod request;

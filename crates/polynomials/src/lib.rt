@@ -1,5 +1,7 @@
 // Polynomials modulo the prime P: the words that a message says in the parts of a frame, and the polynomial through given words.
 // A message is the list of its numbers, the coefficients of a polynomial, the constant first.
+#![tactic(auto)]
+
 pub mod checks;
 mod inverses;
 pub mod through;

@@ -1,5 +1,7 @@
 // Whole inputs: the record of a channel and then records of what was heard, or messages to a sender. Each is read to its end or
 // to its first fault, with all that stands before it.
+#![tactic(auto)]
+
 pub mod heard_input;
 pub mod message_input;
 mod no_channel;

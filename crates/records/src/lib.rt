@@ -1,5 +1,7 @@
 // One record of what goes into a program, as bytes, high byte first: a channel, a message to a sender, what was heard in a slot.
 // All of it works by value and on lent memory, and allocates nothing.
+#![tactic(auto)]
+
 pub mod channel_record;
 pub mod found;
 pub mod heard;

@@ -1,4 +1,6 @@
 // The word of one sender on a command line, as `7` or `7=10,1,0`: its number, and the message that it says.
+#![tactic(auto)]
+
 mod pieces;
 mod spoken;
 

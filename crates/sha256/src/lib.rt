@@ -1,5 +1,7 @@
 // SHA-256 of bytes, as FIPS 180-4 has it: of one slice, of two, and the first four bytes of the digest of nine bytes.
 // All of them go through the same compression of a block, and none of them allocates.
+#![tactic(auto)]
+
 ghost use Rattle.std.specs.Prelude.{◌≡◌, ◌+◌, ◌/◌, ◌^◌, ◌<◌, ◌++◌, length, take};
 ghost use Rattle.sha256.specs.Hash.{blocks_done, bytes_of, digest as digest_of, word_bytes};
 ghost use Rattle.sha256.specs.Known.{Known};

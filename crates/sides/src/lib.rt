@@ -1,4 +1,6 @@
 // The numbers that q may be, with the inverses modulo each: the table on which all arithmetic modulo q rests.
+#![tactic(auto)]
+
 mod inverses;
 mod look_up;
 mod table;

@@ -1,4 +1,6 @@
 // The statements of Speakall with their mathematics: each theorem stands on the contract of a small function.
+#![tactic(auto)]
+
 ghost use Rattle.speakall.specs.Promise.{SeldomMeet, OftenAlone, OneMessage, NoMore, Reached, Main};
 ghost use Rattle.speakall.specs.Code.{OnlyOne};
 ghost use Rattle.speakall.specs.Example.{NinePlans, ThreeSpeakers};

@@ -1,5 +1,7 @@
 // Records written behind bytes that are there. Where memory fails, or a record is refused, the bytes stay as they were.
 // What is written is read back, whole.
+#![tactic(auto)]
+
 pub mod answers;
 pub mod heard;
 pub mod messages;

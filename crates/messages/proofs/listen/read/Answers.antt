@@ -34,7 +34,7 @@ interpolate-requires c =
     let few : c.parts.result ≤ 251 = omega (arith, c.parts.ensures, c.args.channel.narrow) in
     record {
       long = search rules;
-      sound = sound-take _ 251 _ _ few (from_true _ c.if-not-is-sound.ensures);
+      sound = sound-take _ 251 _ _ few (from_true _ c.if-not-is_sound.ensures);
     }
 
 pub returns-then-fits : goal.returns-then-fits
@@ -43,7 +43,7 @@ returns-then-fits c =
       made = (
         sym (length-words_in _),
         refl,
-        found _ _ c.args.words.now _ _ _ c.args.channel.narrow (search rules) (search rules) (first _ _ _ c.clear.auto.message) (others _ _ _ c.clear.auto.message) c.interpolate.ensures.agrees (rw c.parts.ensures at c.if-not-is-sound.ensures) c.if-fits.ensures,
+        found _ _ c.args.words.now _ _ _ c.args.channel.narrow (search rules) (search rules) (first _ _ _ c.clear.auto.message) (others _ _ _ c.clear.auto.message) c.interpolate.ensures.agrees (rw c.parts.ensures at c.if-not-is_sound.ensures) c.if-fits.ensures,
       );
       cleared = tt;
     }

@@ -10,7 +10,7 @@ returns-in-Some c =
     lower_found c.args.wish c.args.q c.loop-d.d c.in-Some.channel c.in-Some.ensures.0 c.in-Some.ensures.1 c.loop-d.invariant
 
 pub loop-d-preserved : goal.loop-d-preserved
-loop-d-preserved c = lower_more c.args.wish c.args.q c.loop-d.d c.in-default.ensures c.loop-d.invariant
+loop-d-preserved c = lower_more c.args.wish c.args.q c.loop-d.d c.in_default.ensures c.loop-d.invariant
 
 pub returns : goal.returns
 returns c = lower_all c.args.wish c.args.q c.loop-d.d c.loop-d-test.false c.loop-d.invariant

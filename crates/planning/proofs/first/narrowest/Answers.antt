@@ -12,7 +12,7 @@ returns-in-Some c =
 
 pub loop-q-preserved : goal.loop-q-preserved
 loop-q-preserved c =
-    narrower_more c.args.wish c.args.sides.now c.loop-q.q-index c.requires c.loop-q-test.true c.in-default.ensures c.loop-q.invariant
+    narrower_more c.args.wish c.args.sides.now c.loop-q.q-index c.requires c.loop-q-test.true c.in_default.ensures c.loop-q.invariant
 
 pub returns : goal.returns
 returns c =

@@ -14,7 +14,7 @@ add-side-requires c =
 pub loop-q-preserved : goal.loop-q-preserved
 loop-q-preserved c =
     let e = side_read c.args.sides.now c.loop-q.q-index c.requires c.loop-q-test.true in
-    list_next_side c.args.wish c.args.sides.now c.loop-q.q-index _ c.requires c.loop-q-test.true (simp e at c.in-ok-add-side.ensures)
+    list_next_side c.args.wish c.args.sides.now c.loop-q.q-index _ c.requires c.loop-q-test.true (simp e at c.in_ok-add_side.ensures)
 
 pub returns : goal.returns
 returns c =

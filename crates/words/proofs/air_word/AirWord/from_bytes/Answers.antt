@@ -10,14 +10,14 @@ returns-in-err-said c = search (rules, tested_none)
 
 pub returns-then-counts : goal.returns-then-counts
 returns-then-counts c =
-    let said = c.in-ok-said.said in
+    let said = c.in_ok-said.said in
     let k = counts_here (settings c.args.channel) c.args.frame c.args.part c.args.slot said.sender said.frame said.word c.args.bytes
-    c.in-ok-said.ensures (c.counts.ensures.0 c.if-counts.true) in
+    c.in_ok-said.ensures (c.counts.ensures.0 c.if-counts.true) in
     record { tested = tested_some _ _ _ _ _ _ _ (search rules) k; counts = k }
 
 pub returns-else-counts : goal.returns-else-counts
 returns-else-counts c =
-    let said = c.in-ok-said.said in
+    let said = c.in_ok-said.said in
     let n = counts_not (settings c.args.channel) c.args.frame c.args.part c.args.slot said.sender said.frame said.word c.args.bytes
-    (search rules) (search rules) (search rules) c.in-ok-said.ensures (λ h. both_ways c.counts.result c.if-counts.false (c.counts.ensures.1 h)) in
+    (search rules) (search rules) (search rules) c.in_ok-said.ensures (λ h. both_ways c.counts.result c.if-counts.false (c.counts.ensures.1 h)) in
     record { tested = tested_none _ _ _ _ _ n; counts = n }

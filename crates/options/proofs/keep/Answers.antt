@@ -2,8 +2,8 @@ use Rattle.std.proofs.Common.{rules}
 use Rattle.options.proofs.Sorting.{kept-one, kept_none}
 use Rattle.options.proofs.keep.Goals as goal
 
-pub returns-in-ok-push : goal.returns-in-ok-push
-returns-in-ok-push c = search (rules, kept-one)
+pub returns-in_ok-push : goal.returns-in_ok-push
+returns-in_ok-push c = search (rules, kept-one)
 
 pub returns-else-ne : goal.returns-else-ne
 returns-else-ne c = search (rules, kept_none)

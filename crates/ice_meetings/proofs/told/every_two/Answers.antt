@@ -8,7 +8,7 @@ pub loop-i-init : goal.loop-i-init
 loop-i-init c = simp c.new-lines.ensures.items
 
 pub loop-i-preserved : goal.loop-i-preserved
-loop-i-preserved c = two_more (settings c.args.channel) c.args.numbers.now c.loop-i.i (lines_in (vec_items c.loop-i.lines)) _ c.loop-i-test.true c.in-ok-meet-with.ensures c.loop-i.invariant
+loop-i-preserved c = two_more (settings c.args.channel) c.args.numbers.now c.loop-i.i (lines_in (vec_items c.loop-i.lines)) _ c.loop-i-test.true c.in_ok-meet_with.ensures c.loop-i.invariant
 
 pub returns : goal.returns
 returns c = two_all (settings c.args.channel) c.args.numbers.now c.loop-i.i (lines_in (vec_items c.loop-i.lines)) c.loop-i-test.false c.loop-i.invariant

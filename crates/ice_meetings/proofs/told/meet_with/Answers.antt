@@ -9,7 +9,7 @@ loop-other-init c = with_lines_none (pair_text (settings c.args.channel) c.args.
 
 pub loop-other-preserved : goal.loop-other-preserved
 loop-other-preserved c =
-    with_lines_more (pair_text (settings c.args.channel) c.args.number) c.args.others.now (lines_in (vec_items c.args.lines.now)) c.loop-other.other-index (lines_in (vec_items c.loop-other.lines)) _ _ c.loop-other-test.true c.in-ok-pair.ensures c.in-ok-push-line.ensures c.loop-other.invariant
+    with_lines_more (pair_text (settings c.args.channel) c.args.number) c.args.others.now (lines_in (vec_items c.args.lines.now)) c.loop-other.other-index (lines_in (vec_items c.loop-other.lines)) _ _ c.loop-other-test.true c.in_ok-pair.ensures c.in_ok-push_line.ensures c.loop-other.invariant
 
 pub returns : goal.returns
 returns c =

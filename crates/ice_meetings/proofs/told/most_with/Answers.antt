@@ -12,7 +12,7 @@ returns-then-top-limit c =
 
 pub loop-other-preserved : goal.loop-other-preserved
 loop-other-preserved c =
-    with_more c.args.limit (meets_in (settings c.args.channel) c.args.number) c.args.others.now c.args.most c.loop-other.other-index c.loop-other.top _ c.min.result c.max-top.result c.loop-other-test.true c.in-ok-meeting.ensures.count c.min.ensures c.max-top.ensures c.loop-other.invariant
+    with_more c.args.limit (meets_in (settings c.args.channel) c.args.number) c.args.others.now c.args.most c.loop-other.other-index c.loop-other.top _ c.min.result c.max-top.result c.loop-other-test.true c.in_ok-meeting.ensures.count c.min.ensures c.max-top.ensures c.loop-other.invariant
 
 pub returns : goal.returns
 returns c =

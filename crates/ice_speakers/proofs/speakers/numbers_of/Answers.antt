@@ -5,7 +5,7 @@ use Rattle.ice_speakers.proofs.speakers.numbers_of.Goals as goal
 
 pub loop-speaker-preserved : goal.loop-speaker-preserved
 loop-speaker-preserved c =
-    mapped_more number_in c.args.speakers.now c.loop-speaker.speaker-index (vec_items c.loop-speaker.numbers) (vec_items c.push.new.self) c.speaker-item.result c.speaker-item.result.number c.loop-speaker-test.true c.loop-speaker.invariant (ap number_in c.speaker-item.is) c.in-ok-push.ensures.items
+    mapped_more number_in c.args.speakers.now c.loop-speaker.speaker-index (vec_items c.loop-speaker.numbers) (vec_items c.push.new.self) c.speaker-item.result c.speaker-item.result.number c.loop-speaker-test.true c.loop-speaker.invariant (ap number_in c.speaker-item.is) c.in_ok-push.ensures.items
 
 pub returns : goal.returns
 returns c = mapped_all number_in c.args.speakers.now c.loop-speaker.speaker-index (vec_items c.loop-speaker.numbers) c.loop-speaker-test.false c.loop-speaker.invariant

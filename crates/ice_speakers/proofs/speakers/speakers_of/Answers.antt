@@ -10,8 +10,8 @@ loop-spoken-init c = simp c.new-speakers.ensures.items (each_none (Says (size (s
 
 pub loop-spoken-preserved : goal.loop-spoken-preserved
 loop-spoken-preserved c =
-    simp c.in-ok-push.ensures.items
-    (each_more (Says (size (settings c.args.channel))) c.args.all.now c.loop-spoken.spoken-index (vec_items c.loop-spoken.speakers) c.spoken-item.result _ c.loop-spoken-test.true c.spoken-item.is (record { number = c.narrowed-number.ensures; message = c.in-ok-message.ensures }) c.loop-spoken.invariant)
+    simp c.in_ok-push.ensures.items
+    (each_more (Says (size (settings c.args.channel))) c.args.all.now c.loop-spoken.spoken-index (vec_items c.loop-spoken.speakers) c.spoken-item.result _ c.loop-spoken-test.true c.spoken-item.is (record { number = c.narrowed-number.ensures; message = c.in_ok-message.ensures }) c.loop-spoken.invariant)
 
 pub returns : goal.returns
 returns c = each_all (Says (size (settings c.args.channel))) c.args.all.now c.loop-spoken.spoken-index (vec_items c.loop-spoken.speakers) c.loop-spoken-test.false c.loop-spoken.invariant

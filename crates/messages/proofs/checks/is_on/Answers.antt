@@ -6,8 +6,8 @@ use Rattle.messages.proofs.checks.is_on.Goals as goal
 pub loop-word-preserved : goal.loop-word-preserved
 loop-word-preserved c = search (rules, agrees_more)
 
-pub returns-then-word-at-word : goal.returns-then-word-at-word
-returns-then-word-at-word c = search (rules, agrees_stop)
+pub returns-then-word_at-word : goal.returns-then-word_at-word
+returns-then-word_at-word c = search (rules, agrees_stop)
 
 pub returns : goal.returns
 returns c = search (rules, agrees_all)

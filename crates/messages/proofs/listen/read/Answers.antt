@@ -22,10 +22,10 @@ returns-then-words-size c =
       cleared = c.clear.ensures;
     }
 
-pub returns-then-not-is-sound : goal.returns-then-not-is-sound
-returns-then-not-is-sound c =
+pub returns-then-not-is_sound : goal.returns-then-not-is_sound
+returns-then-not-is_sound c =
     record {
-      made = (omega (arith, length-words_in c.args.words.now, c.clear.auto.message), λ sound m fits. not-false _ (rw c.parts.ensures at c.if-not-is-sound.ensures) sound);
+      made = (omega (arith, length-words_in c.args.words.now, c.clear.auto.message), λ sound m fits. not-false _ (rw c.parts.ensures at c.if-not-is_sound.ensures) sound);
       cleared = c.clear.ensures;
     }
 

@@ -12,7 +12,7 @@ loop-piece-init c = λ more. sym (c.new-reader.ensures more) ∙ ap (λ (xs : Li
 pub loop-piece-preserved : goal.loop-piece-preserved
 loop-piece-preserved c =
     joins_more (λ v. vec_items v) c.args.pieces.now c.loop-piece.piece-index c.piece-item.result c.deref.result.now (vec_items c.loop-piece.records) (vec_items c.feed.new.records) c.loop-piece.reader
-    c.in-ok-reader.reader c.loop-piece-test.true c.piece-item.is c.deref.ensures.value c.loop-piece.invariant c.in-ok-reader.ensures
+    c.in_ok-reader.reader c.loop-piece-test.true c.piece-item.is c.deref.ensures.value c.loop-piece.invariant c.in_ok-reader.ensures
 
 pub returns : goal.returns
 returns c =
@@ -23,5 +23,5 @@ returns c =
       stopped = c.finish.ensures.stopped ∙ ap (λ (a : Answer). a.stopped) (sym e);
     }
 
-pub returns-in-err-reader : goal.returns-in-err-reader
-returns-in-err-reader c = let p = err_from_is_err_and c.from-residual.result c.from-residual.ensures.1 in rw (p.1, p.2) c.in-err-reader.ensures.0
+pub returns-in_err-reader : goal.returns-in_err-reader
+returns-in_err-reader c = let p = err_from_is_err_and c.from-residual.result c.from-residual.ensures.1 in rw (p.1, p.2) c.in_err-reader.ensures.0

@@ -2,9 +2,9 @@
 use Rattle.plan_words.proofs.Reading.{held_more, answer_stopped, answer_ended}
 use Rattle.plan_words.proofs.request.read_words.Goals as goal
 
-pub returns-in-default : goal.returns-in-default
-returns-in-default c =
-    rw c.stopped.ensures (answer_stopped c.args.words.now c.loop-i.i c.loop-i.asked c.loop-i-test.true c.loop-i.invariant _ c.in-default.ensures)
+pub returns-in_default : goal.returns-in_default
+returns-in_default c =
+    rw c.stopped.ensures (answer_stopped c.args.words.now c.loop-i.i c.loop-i.asked c.loop-i-test.true c.loop-i.invariant _ c.in_default.ensures)
 
 pub loop-i-preserved : goal.loop-i-preserved
 loop-i-preserved c = held_more c.args.words.now c.loop-i.i _ _ _ _ _ c.loop-i-test.true c.in-Some.ensures c.loop-i.invariant

@@ -13,5 +13,5 @@ loop-d-preserved c =
           simp (w.found-is, w.in_ok-keep.ensures)
           (list_pushed c.args.wish c.args.q c.loop-d.d (vec_items c.loop-d.found) w.in-Some.channel e.0 e.1 c.loop-d.invariant)
       | in_default w ↦
-          simp w.found-is (list_passed c.args.wish c.args.q c.loop-d.d (settings_of (vec_items c.loop-d.found)) w.in-default.ensures c.loop-d.invariant)
+          simp w.found-is (list_passed c.args.wish c.args.q c.loop-d.d (settings_of (vec_items c.loop-d.found)) w.in_default.ensures c.loop-d.invariant)
     ]

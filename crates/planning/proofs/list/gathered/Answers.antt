@@ -6,8 +6,8 @@ use Rattle.planning.proofs.list.gathered.Goals as goal
 pub loop-q-init : goal.loop-q-init
 loop-q-init c = simp c.new-found.ensures.items (list_none c.args.wish)
 
-pub add-side-requires : goal.add-side-requires
-add-side-requires c =
+pub add_side-requires : goal.add_side-requires
+add_side-requires c =
     let e = side_read c.args.sides.now c.loop-q.q-index c.requires c.loop-q-test.true in
     simp e c.loop-q.invariant
 

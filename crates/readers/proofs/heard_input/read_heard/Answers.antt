@@ -5,7 +5,7 @@ use Rattle.readers.proofs.heard_input.read_heard.Goals as goal
 
 pub returns : goal.returns
 returns c = record {
-  read = c.heard-to-end.ensures;
+  read = c.heard_to_end.ensures;
   stays = fault_stays (heard_format c.args.channel.q) (heard_lawful c.args.channel.q);
   lost = last_lost (heard_format c.args.channel.q) (heard_lawful c.args.channel.q);
 }

@@ -4,14 +4,14 @@ use Rattle.records.specs.Channels.{settled}
 use Rattle.readers.proofs.Wholes.{channel_long, heard_input}
 use Rattle.readers.proofs.heard_input.read_heard_input.Goals as goal
 
-pub slice-bounds-read-heard-count : goal.slice-bounds-read-heard-count
-slice-bounds-read-heard-count c = channel_long c.args.bytes.now (settings c.in-Whole.channel) (sym c.channel-first-found.ensures ∙ ap settled c.in-Whole.is)
+pub slice_bounds-read_heard-count : goal.slice_bounds-read_heard-count
+slice_bounds-read_heard-count c = channel_long c.args.bytes.now (settings c.in-Whole.channel) (sym c.channel_first-found.ensures ∙ ap settled c.in-Whole.is)
 
-pub slice-bounds-read-heard-start : goal.slice-bounds-read-heard-start
-slice-bounds-read-heard-start c =
-    let l = channel_long c.args.bytes.now (settings c.in-Whole.channel) (sym c.channel-first-found.ensures ∙ ap settled c.in-Whole.is) in
+pub slice_bounds-read_heard-start : goal.slice_bounds-read_heard-start
+slice_bounds-read_heard-start c =
+    let l = channel_long c.args.bytes.now (settings c.in-Whole.channel) (sym c.channel_first-found.ensures ∙ ap settled c.in-Whole.is) in
     search rules
 
 pub returns : goal.returns
 returns c =
-    heard_input c.args.bytes.now c.in-Whole.channel c.in-ok-heard.heard (sym c.channel-first-found.ensures ∙ ap settled c.in-Whole.is) c.in-ok-heard.ensures.read
+    heard_input c.args.bytes.now c.in-Whole.channel c.in_ok-heard.heard (sym c.channel_first-found.ensures ∙ ap settled c.in-Whole.is) c.in_ok-heard.ensures.read

@@ -5,7 +5,7 @@ use Rattle.readers.proofs.message_input.add_numbers.Goals as goal
 pub loop-left-preserved : goal.loop-left-preserved
 loop-left-preserved c =
     let long : 4 ≤ length c.loop-left.left.now = search rules in
-    numbers_push (vec_items c.loop-left.numbers) (vec_items c.push.new.self) _ c.loop-left.left.now c.from-be-bytes.result c.loop-left.invariant c.from-be-bytes.ensures c.in-ok-push.ensures.items long
+    numbers_push (vec_items c.loop-left.numbers) (vec_items c.push.new.self) _ c.loop-left.left.now c.from_be_bytes.result c.loop-left.invariant c.from_be_bytes.ensures c.in_ok-push.ensures.items long
 
 pub returns : goal.returns
 returns c =

@@ -7,7 +7,7 @@ use Rattle.readers.proofs.message_input.read_messages.Goals as goal
 
 pub returns : goal.returns
 returns c = record {
-  read = c.messages-to-end.ensures;
+  read = c.messages_to_end.ensures;
   stays = fault_stays (message_format (size (settings c.args.channel))) (message_lawful (size (settings c.args.channel)));
   lost = last_lost (message_format (size (settings c.args.channel))) (message_lawful (size (settings c.args.channel)));
 }

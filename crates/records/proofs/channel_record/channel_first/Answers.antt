@@ -2,14 +2,14 @@ use Rattle.std.proofs.Common.{◌≡◌, ◌≤◌, length, get_or, rules}
 use Rattle.records.proofs.Firsts.{first_none, first-other, first_cut, channel_made, channel-not}
 use Rattle.records.proofs.channel_record.channel_first.Goals as goal
 
-pub returns-in-default : goal.returns-in-default
-returns-in-default c = search (rules, first_none)
+pub returns-in_default : goal.returns-in_default
+returns-in_default c = search (rules, first_none)
 
 pub returns-then-kind-ne-CHANNEL : goal.returns-then-kind-ne-CHANNEL
 returns-then-kind-ne-CHANNEL c = search (rules, first-other)
 
-pub returns-in-default-bytes : goal.returns-in-default-bytes
-returns-in-default-bytes c = search (rules, first_cut)
+pub returns-in_default-bytes : goal.returns-in_default-bytes
+returns-in_default-bytes c = search (rules, first_cut)
 
 pub returns-in-Ok : goal.returns-in-Ok
 returns-in-Ok c =

@@ -2,14 +2,14 @@ use Rattle.std.proofs.Common.{◌≡◌, ◌≤◌, length, get_or, arith, rules
 use Rattle.records.proofs.Firsts.{first_none, first-other, first_cut, counted, counted_cut, rest_short, rest_long}
 use Rattle.records.proofs.message.count_in.Goals as goal
 
-pub returns-in-default : goal.returns-in-default
-returns-in-default c = search (rules, first_none)
+pub returns-in_default : goal.returns-in_default
+returns-in_default c = search (rules, first_none)
 
 pub returns-then-kind-ne-MESSAGE : goal.returns-then-kind-ne-MESSAGE
 returns-then-kind-ne-MESSAGE c = search (rules, first-other)
 
-pub returns-in-default-bytes : goal.returns-in-default-bytes
-returns-in-default-bytes c = search (rules, first_cut)
+pub returns-in_default-bytes : goal.returns-in_default-bytes
+returns-in_default-bytes c = search (rules, first_cut)
 
 pub returns-then-rest-from : goal.returns-then-rest-from
 returns-then-rest-from c =

@@ -7,14 +7,14 @@ use Rattle.sender_words.proofs.pieces.listed.Goals as goal
 pub loop-n-init : goal.loop-n-init
 loop-n-init c = (search rules, simp c.new-numbers.ensures.items (begun_none c.args.text.now))
 
-pub returns-in-default : goal.returns-in-default
-returns-in-default c =
-    begun_wrong c.args.text.now c.loop-n.rest.now (vec_items c.loop-n.numbers) c.loop-n.invariant.1 (rw c.cut.ensures.front at c.in-default.ensures)
+pub returns-in_default : goal.returns-in_default
+returns-in_default c =
+    begun_wrong c.args.text.now c.loop-n.rest.now (vec_items c.loop-n.numbers) c.loop-n.invariant.1 (rw c.cut.ensures.front at c.in_default.ensures)
 
-pub returns-in-default-back : goal.returns-in-default-back
-returns-in-default-back c =
-    simp c.in-ok-push.ensures.items
-    (begun_all c.args.text.now c.loop-n.rest.now (vec_items c.loop-n.numbers) c.loop-n.invariant.1 c.in-Some.n (sym c.cut.ensures.back ∙ ap lent c.in-default-back.is) (rw c.cut.ensures.front at c.in-Some.ensures))
+pub returns-in_default-back : goal.returns-in_default-back
+returns-in_default-back c =
+    simp c.in_ok-push.ensures.items
+    (begun_all c.args.text.now c.loop-n.rest.now (vec_items c.loop-n.numbers) c.loop-n.invariant.1 c.in-Some.n (sym c.cut.ensures.back ∙ ap lent c.in_default-back.is) (rw c.cut.ensures.front at c.in-Some.ensures))
 
 pub loop-n-smaller : goal.loop-n-smaller
 loop-n-smaller c = shorter 44 c.loop-n.rest.now c.in-Some-back.next.now (sym c.cut.ensures.back ∙ ap lent c.in-Some-back.is)
@@ -22,6 +22,6 @@ loop-n-smaller c = shorter 44 c.loop-n.rest.now c.in-Some-back.next.now (sym c.c
 pub loop-n-preserved : goal.loop-n-preserved
 loop-n-preserved c = (
   search rules,
-  simp c.in-ok-push.ensures.items
+  simp c.in_ok-push.ensures.items
       (begun_more c.args.text.now c.loop-n.rest.now (vec_items c.loop-n.numbers) c.loop-n.invariant.1 c.in-Some-back.next.now c.in-Some.n (sym c.cut.ensures.back ∙ ap lent c.in-Some-back.is) (rw c.cut.ensures.front at c.in-Some.ensures)),
 )

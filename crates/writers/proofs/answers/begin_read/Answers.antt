@@ -6,4 +6,4 @@ pub returns-in-Err : goal.returns-in-Err
 returns-in-Err c = (c.in-Err.ensures.0, none_begun (vec_items c.args.out.now) (vec_items c.put.new.out) c.in-Err.ensures.1)
 
 pub returns : goal.returns
-returns c = begun_after c.put-numbers.result (vec_items c.args.out.now) c.args.head.now _ (vec_items c.put.new.out) (vec_items c.put-numbers.new.out) c.in-default.ensures c.put-numbers.ensures
+returns c = begun_after c.put_numbers.result (vec_items c.args.out.now) c.args.head.now _ (vec_items c.put.new.out) (vec_items c.put_numbers.new.out) c.in_default.ensures c.put_numbers.ensures

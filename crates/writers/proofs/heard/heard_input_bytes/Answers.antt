@@ -8,5 +8,5 @@ use Rattle.writers.proofs.heard.heard_input_bytes.Goals as goal
 pub returns : goal.returns
 returns c =
     let after = λ (bs : List ℕ). bs ++ flat_map bytes_of_heard c.args.records.now in
-    let bytes = c.in-ok-write-all.ensures.bytes ∙ ap after c.in-ok-write-channel.ensures ∙ ap (λ (bs : List ℕ). after (bs ++ bytes_of_channel c.args.channel.q c.args.channel.d c.args.channel.k)) c.new-out.ensures.items in
-    record { bytes = bytes; back = input_back c.args.channel c.args.records.now _ bytes c.in-ok-write-all.ensures.back }
+    let bytes = c.in_ok-write_all.ensures.bytes ∙ ap after c.in_ok-write_channel.ensures ∙ ap (λ (bs : List ℕ). after (bs ++ bytes_of_channel c.args.channel.q c.args.channel.d c.args.channel.k)) c.new-out.ensures.items in
+    record { bytes = bytes; back = input_back c.args.channel c.args.records.now _ bytes c.in_ok-write_all.ensures.back }

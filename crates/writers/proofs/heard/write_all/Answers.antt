@@ -12,9 +12,9 @@ loop-heard-init c = (put_none bytes_of_heard (vec_items c.args.out.now) c.args.r
 
 pub loop-heard-preserved : goal.loop-heard-preserved
 loop-heard-preserved c = (
-  put_more bytes_of_heard (vec_items c.args.out.now) c.args.records.now (vec_items c.loop-heard.out) (vec_items c.write-heard.new.out) c.loop-heard.heard-index _ c.loop-heard-test.true
-      (get_or_default c.args.records.now c.loop-heard.heard-index _ _ c.loop-heard-test.true) c.loop-heard.invariant.0 c.in-default.ensures.bytes,
-  All-more ReadBack c.args.records.now c.loop-heard.heard-index _ c.loop-heard-test.true c.loop-heard.invariant.1 c.in-default.ensures.back,
+  put_more bytes_of_heard (vec_items c.args.out.now) c.args.records.now (vec_items c.loop-heard.out) (vec_items c.write_heard.new.out) c.loop-heard.heard-index _ c.loop-heard-test.true
+      (get_or_default c.args.records.now c.loop-heard.heard-index _ _ c.loop-heard-test.true) c.loop-heard.invariant.0 c.in_default.ensures.bytes,
+  All-more ReadBack c.args.records.now c.loop-heard.heard-index _ c.loop-heard-test.true c.loop-heard.invariant.1 c.in_default.ensures.back,
 )
 
 pub returns-in-Err : goal.returns-in-Err

@@ -7,5 +7,5 @@ returns-in-Err c = (c.in-Err.ensures.0, none_begun (vec_items c.args.out.now) (v
 
 pub returns : goal.returns
 returns c =
-    begun_after c.put-numbers.result (vec_items c.args.out.now) (2 ∷ length c.args.numbers.now ∷ []) _ (vec_items c.put.new.out) (vec_items c.put-numbers.new.out)
-    (c.in-default.ensures ∙ ap (λ (bs : List ℕ). vec_items c.args.out.now ++ bs) (c.message-head.ensures ∙ ap (λ (n : ℕ). 2 ∷ n ∷ []) (sym c.requires))) c.put-numbers.ensures
+    begun_after c.put_numbers.result (vec_items c.args.out.now) (2 ∷ length c.args.numbers.now ∷ []) _ (vec_items c.put.new.out) (vec_items c.put_numbers.new.out)
+    (c.in_default.ensures ∙ ap (λ (bs : List ℕ). vec_items c.args.out.now ++ bs) (c.message_head.ensures ∙ ap (λ (n : ℕ). 2 ∷ n ∷ []) (sym c.requires))) c.put_numbers.ensures

@@ -17,7 +17,7 @@ pub loop-number-preserved : goal.loop-number-preserved
 loop-number-preserved c =
     put_more four_bytes (vec_items c.args.out.now) c.args.numbers.now (vec_items c.loop-number.out) (vec_items c.put.new.out) c.loop-number.number-index (get_or c.args.numbers.now c.loop-number.number-index 0)
     c.loop-number-test.true (get_or_default c.args.numbers.now c.loop-number.number-index 0 _ c.loop-number-test.true) c.loop-number.invariant
-    (c.in-default.ensures ∙ ap (λ (bs : List ℕ). vec_items c.loop-number.out ++ bs) c.to-be-bytes.ensures)
+    (c.in_default.ensures ∙ ap (λ (bs : List ℕ). vec_items c.loop-number.out ++ bs) c.to_be_bytes.ensures)
 
 pub returns : goal.returns
 returns c = put_all four_bytes (vec_items c.args.out.now) c.args.numbers.now (vec_items c.loop-number.out) c.loop-number.number-index c.loop-number-test.false c.loop-number.invariant

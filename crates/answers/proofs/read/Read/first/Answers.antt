@@ -3,14 +3,14 @@ use Rattle.records.proofs.Firsts.{first_none, first-other, first_cut, counted_cu
 use Rattle.answers.proofs.Said.{read_made}
 use Rattle.answers.proofs.read.Read.first.Goals as goal
 
-pub returns-in-default : goal.returns-in-default
-returns-in-default c = search (rules, first_none)
+pub returns-in_default : goal.returns-in_default
+returns-in_default c = search (rules, first_none)
 
 pub returns-then-kind-ne-READ : goal.returns-then-kind-ne-READ
 returns-then-kind-ne-READ c = search (rules, first-other)
 
-pub returns-in-default-bytes : goal.returns-in-default-bytes
-returns-in-default-bytes c = search (rules, first_cut)
+pub returns-in_default-bytes : goal.returns-in_default-bytes
+returns-in_default-bytes c = search (rules, first_cut)
 
 pub returns-then-rest-from : goal.returns-then-rest-from
 returns-then-rest-from c =
@@ -26,4 +26,4 @@ returns c =
     let long : 11 ≤ length c.args.bytes.now = search rules in
     let kind : get_or c.args.bytes.now 0 0 ≡ 4 = search rules in
     let all = rest_long bs 11 _ c.if-rest-from.false long in
-    read_made bs c.from-be-bytes.result c.from-be-bytes-2.result c.from-be-bytes.ensures (search rules) long kind (rw c.from.ensures at all)
+    read_made bs c.from_be_bytes.result c.from_be_bytes-2.result c.from_be_bytes.ensures (search rules) long kind (rw c.from.ensures at all)

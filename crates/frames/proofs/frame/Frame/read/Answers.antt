@@ -10,7 +10,7 @@ pub returns : goal.returns
 returns c =
     let frame = c.args.self.now in
     let plan = plan_of (settings c.args.self.now.channel) c.args.number in
-    let words = ap words_in c.deref.ensures.value ∙ c.in-ok-words.ensures in
+    let words = ap words_in c.deref.ensures.value ∙ c.in_ok-words.ensures in
     record {
       made = answered (settings frame.channel) (vec_items frame.slots) plan (words_in c.deref.result.now) c.read.result c.args.message.now c.read.new.message words (omega arith)
           c.read.ensures.made c.read.ensures.cleared;

@@ -4,12 +4,12 @@ use Rattle.frames.specs.declared.slot.Slot.TheVariants.{Silence}
 use Rattle.frames.proofs.Hearing.{there_silent, silent_hears}
 use Rattle.frames.proofs.frame.Frame.silent.Goals as goal
 
-pub invariant-of-result : goal.invariant-of-result
-invariant-of-result c =
-    let items = c.in-ok-slots.ensures.items-if-clones-equal (λ y e. e) in
+pub invariant_of-result : goal.invariant_of-result
+invariant_of-result c =
+    let items = c.in_ok-slots.ensures.items-if-clones-equal (λ y e. e) in
     (search rules, (rw items (there_silent _ _), tt))
 
 pub returns : goal.returns
 returns c =
-    let items = c.in-ok-slots.ensures.items-if-clones-equal (λ y e. e) ∙ ap (λ n. replicate n Silence) c.slots.ensures in
+    let items = c.in_ok-slots.ensures.items-if-clones-equal (λ y e. e) ∙ ap (λ n. replicate n Silence) c.slots.ensures in
     (refl, rw items (silent_hears (settings c.args.channel)))

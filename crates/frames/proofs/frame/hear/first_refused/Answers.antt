@@ -11,7 +11,7 @@ returns-in-Some c =
 pub loop-speaker-preserved : goal.loop-speaker-preserved
 loop-speaker-preserved c =
     refusal_more (settings c.args.channel) c.args.speakers.now c.loop-speaker.speaker-index c.speaker-item.result (omega arith) c.speaker-item.is c.deref.result.now
-    c.deref.ensures.value (sym c.refused.ensures ∙ c.in-default.is) c.loop-speaker.invariant
+    c.deref.ensures.value (sym c.refused.ensures ∙ c.in_default.is) c.loop-speaker.invariant
 
 pub returns : goal.returns
 returns c = search (rules, refusal_none)

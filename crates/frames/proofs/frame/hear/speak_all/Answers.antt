@@ -18,10 +18,10 @@ pub loop-i-preserved : goal.loop-i-preserved
 loop-i-preserved c = (
   c.speak.ensures.same ∙ c.loop-i.invariant.0,
   heard_more (settings c.args.frame.now.channel) (settings c.loop-i.frame.channel) c.args.speakers.now c.loop-i.i _ c.deref.result.now (vec_items c.loop-i.frame.slots)
-      (vec_items c.speak.new.self.slots) (ap settings c.loop-i.invariant.0) (omega arith) (omega arith) c.index-speakers-i.is c.deref.ensures.value c.in-ok-speak.ensures.cases c.loop-i.invariant.1,
+      (vec_items c.speak.new.self.slots) (ap settings c.loop-i.invariant.0) (omega arith) (omega arith) c.index-speakers-i.is c.deref.ensures.value c.in_ok-speak.ensures.cases c.loop-i.invariant.1,
 )
 
-pub returns-in-err-speak : goal.returns-in-err-speak
-returns-in-err-speak c =
+pub returns-in_err-speak : goal.returns-in_err-speak
+returns-in_err-speak c =
     absurd (refusal_never (settings c.args.frame.now.channel) (settings c.loop-i.frame.channel) c.args.speakers.now _ _ c.deref.result.now _ (ap settings c.loop-i.invariant.0) (omega arith)
-    c.index-speakers-i.is c.deref.ensures.value c.requires.can c.in-err-speak.ensures.cases.0)
+    c.index-speakers-i.is c.deref.ensures.value c.requires.can c.in_err-speak.ensures.cases.0)

@@ -2,5 +2,5 @@ use Rattle.std.proofs.Common.{rules}
 use Rattle.pieces.proofs.Stepping.{channel-waits}
 use Rattle.pieces.proofs.heard_reader.HeardReader.new.Goals as goal
 
-pub invariant-of-result : goal.invariant-of-result
-invariant-of-result c = (search rules, (channel-waits, tt))
+pub invariant_of-result : goal.invariant_of-result
+invariant_of-result c = (search rules, (channel-waits, tt))

@@ -10,4 +10,4 @@ returns-in-Opening c = λ more.
 pub returns-in-Records : goal.returns-in-Records
 returns-in-Records c = λ more.
     step_records c.args.self.phase c.args.self.byte (take c.args.self.count c.args.self.held) (take (c.args.self.count + 1) c.with-held.result) more c.args.b _ c.in-Records.channel c.in-Records.low
-    c.in-Records.is c.with-held.ensures.more (c.heard-in.ensures more)
+    c.in-Records.is c.with-held.ensures.more (c.heard_in.ensures more)

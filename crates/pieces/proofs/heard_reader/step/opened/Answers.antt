@@ -5,11 +5,11 @@ use Rattle.pieces.specs.Waiting.{is_short}
 use Rattle.pieces.proofs.Stepping.{heard-waits, opened-whole, opened_wrong}
 use Rattle.pieces.proofs.heard_reader.step.opened.Goals as goal
 
-pub invariant-of-result : goal.invariant-of-result
-invariant-of-result c = (search rules, (heard-waits _ _, tt))
+pub invariant_of-result : goal.invariant_of-result
+invariant_of-result c = (search rules, (heard-waits _ _, tt))
 
-pub invariant-of-result-in-Short : goal.invariant-of-result-in-Short
-invariant-of-result-in-Short c =
+pub invariant_of-result-in-Short : goal.invariant_of-result-in-Short
+invariant_of-result-in-Short c =
     let twenty : length c.args.held ≡ 20 = search rules in
     let short = rw c.from.ensures at (sym c.in-Short.ensures) in
     let few = channel_short (take (c.args.before + 1) c.args.held) short in

@@ -6,5 +6,5 @@ use Rattle.plan_words.proofs.word.Word.of.Goals as goal
 
 pub returns-in-Err : goal.returns-in-Err
 returns-in-Err c =
-    let dash = starts_char 45 c.args.text.now c.starts-with.result c.starts-with.ensures.cases (lit< tt) (lit< tt) in
-    (c.in-Err.ensures.value.0, λ d. both_ways c.starts-with.result c.if-starts-with.false (dash.1 d))
+    let dash = starts_char 45 c.args.text.now c.starts_with.result c.starts_with.ensures.cases (lit< tt) (lit< tt) in
+    (c.in-Err.ensures.value.0, λ d. both_ways c.starts_with.result c.if-starts_with.false (dash.1 d))

@@ -5,8 +5,8 @@ use Rattle.words.proofs.Taken.{counts_here, counts_not}
 use Rattle.words.proofs.Tested.{tested_none, tested_some}
 use Rattle.words.proofs.air_word.AirWord.from_bytes.Goals as goal
 
-pub returns-in-err-said : goal.returns-in-err-said
-returns-in-err-said c = search (rules, tested_none)
+pub returns-in_err-said : goal.returns-in_err-said
+returns-in_err-said c = search (rules, tested_none)
 
 pub returns-then-counts : goal.returns-then-counts
 returns-then-counts c =

@@ -6,10 +6,10 @@ use Rattle.frames.proofs.frame.Frame.silent.Goals as goal
 
 pub invariant_of-result : goal.invariant_of-result
 invariant_of-result c =
-    let items = c.in_ok-slots.ensures.items-if-clones-equal (λ y e. e) in
-    (search rules, (rw items (there_silent _ _), tt))
+    let items = c.in_ok-slots.ensures.items_if_clones_equal (λ y e. e) in
+    record { whole = search rules; there = rw items (there_silent _ _) }
 
 pub returns : goal.returns
 returns c =
-    let items = c.in_ok-slots.ensures.items-if-clones-equal (λ y e. e) ∙ ap (λ n. replicate n Silence) c.slots.ensures in
+    let items = c.in_ok-slots.ensures.items_if_clones_equal (λ y e. e) ∙ ap (λ n. replicate n Silence) c.slots.ensures in
     (refl, rw items (silent_hears (settings c.args.channel)))

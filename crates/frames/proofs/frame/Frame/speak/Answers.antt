@@ -5,9 +5,9 @@ use Rattle.frames.proofs.frame.Frame.speak.Goals as goal
 pub invariant_of-self : goal.invariant_of-self
 invariant_of-self c =
     let whole = with_items_is c.args.self.now.slots c.speak_in.new.slots (omega arith) in
-    (search rules, (rw whole c.speak_in.ensures.there, tt))
+    record { whole = search rules; there = rw whole c.speak_in.ensures.there }
 
 pub returns : goal.returns
 returns c =
     let whole = with_items_is c.args.self.now.slots c.speak_in.new.slots (omega arith) in
-    record { same = refl; cases = simp whole (simp c.deref-mut.ensures.value at c.speak_in.ensures.cases) }
+    record { same = refl; cases = simp whole (simp c.deref_mut.ensures.value at c.speak_in.ensures.cases) }

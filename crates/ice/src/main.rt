@@ -2,7 +2,6 @@
 // All that can be said of its answers is said by the contracts of `frames`, `ice_words` and `ice_lines`.
 #![tactic(auto)]
 
-use anyhow::anyhow;
 use channels::{Channel, Fault};
 use frames::Frame;
 use ice_lines::SIGNS;
@@ -11,6 +10,7 @@ use plan_words::Line;
 use std::alloc::Global;
 use std::env;
 use std::io::{BufWriter, Write};
+use std::process::ExitCode;
 
 // The senders with their slots.
 fn plans(heap: Global, channel: Channel, numbers: &[u32]) -> Result<Vec<String>, Fault> {
@@ -62,7 +62,7 @@ fn sections(heap: Global, channel: Channel, spoken: &[Spoken]) -> Result<[Vec<St
 }
 
 // Prints the channel's line and the sections, each after an empty line.
-fn show(rt: &HostRuntime, channel: Channel, sections: [Vec<String>; 4]) -> anyhow::Result<()> {
+fn show(rt: &HostRuntime, channel: Channel, sections: [Vec<String>; 4]) -> anyhow::Result<ExitCode> {
     let mut out = BufWriter::new(rt.alloc(), rt.stdout())?;
     let line = Line(channel);
     writeln!(out, "{line}")?;
@@ -73,18 +73,18 @@ fn show(rt: &HostRuntime, channel: Channel, sections: [Vec<String>; 4]) -> anyho
         }
     }
     out.flush()?;
-    Ok(())
+    Ok(ExitCode::SUCCESS)
 }
 
 // Tells which word is wrong and what is wanted, and fails.
-fn correct(rt: &HostRuntime, misuse: Misuse, texts: &[String]) -> anyhow::Result<()> {
+fn correct(rt: &HostRuntime, misuse: Misuse, texts: &[String]) -> anyhow::Result<ExitCode> {
     if misuse == Misuse::Nothing {
         eprint!(rt; "{USAGE}")?;
     } else {
         let text = ice_words::told(rt.alloc(), misuse, texts)?;
         eprintln!(rt; "{text}")?;
     }
-    Err(anyhow!("misuse"))
+    Ok(ExitCode::FAILURE)
 }
 
 // The frame is shown, or told why there is none.
@@ -92,7 +92,7 @@ fn frame(
     rt: &HostRuntime,
     channel: Result<Channel, Fault>,
     spoken: &[Spoken],
-) -> anyhow::Result<()> {
+) -> anyhow::Result<ExitCode> {
     let fault = match channel {
         Ok(channel) => match sections(rt.alloc(), channel, spoken) {
             Ok(sections) => return show(rt, channel, sections),
@@ -101,15 +101,15 @@ fn frame(
         Err(fault) => fault,
     };
     eprintln!(rt; "{fault}")?;
-    Err(anyhow!("no frame"))
+    Ok(ExitCode::FAILURE)
 }
 
-fn main(rt: HostRuntime) -> anyhow::Result<()> {
+fn main(rt: HostRuntime) -> anyhow::Result<ExitCode> {
     let texts = env::args(&rt)?.skip(1).collect::<Vec<String>>(rt.alloc())?;
     match ice_words::read_words(rt.alloc(), &texts) {
         Ok(Request::Help) => {
             print!(rt; "{USAGE}")?;
-            Ok(())
+            Ok(ExitCode::SUCCESS)
         }
         Ok(Request::Frame { q, d, k, spoken }) => {
             frame(&rt, ice_words::channel_of(q, d, k), &spoken)

@@ -2,29 +2,29 @@
 // All that can be said of its answers is said by the contracts of `planning` and `plan_words`.
 #![tactic(auto)]
 
-use anyhow::anyhow;
 use channels::Fault;
 use plan_words::{Line, Misuse, Refusal, Request, USAGE};
 use planning::Wish;
 use std::env;
 use std::io::{BufWriter, Write};
+use std::process::ExitCode;
 
 // Tells why there is no channel, and fails.
-fn refuse(rt: &HostRuntime, fault: Fault, wish: Wish) -> anyhow::Result<()> {
+fn refuse(rt: &HostRuntime, fault: Fault, wish: Wish) -> anyhow::Result<ExitCode> {
     let refusal = Refusal { fault, wish };
     eprintln!(rt; "{refusal}")?;
-    Err(anyhow!("no channel"))
+    Ok(ExitCode::FAILURE)
 }
 
 // Tells which word is wrong and what is wanted, and fails.
-fn correct(rt: &HostRuntime, misuse: Misuse, texts: &[String]) -> anyhow::Result<()> {
+fn correct(rt: &HostRuntime, misuse: Misuse, texts: &[String]) -> anyhow::Result<ExitCode> {
     let text = plan_words::told(rt.alloc(), misuse, texts)?;
     eprintln!(rt; "{text}")?;
-    Err(anyhow!("misuse"))
+    Ok(ExitCode::FAILURE)
 }
 
 // The best channel, and then all that would do, the best first.
-fn show(rt: &HostRuntime, wish: Wish) -> anyhow::Result<()> {
+fn show(rt: &HostRuntime, wish: Wish) -> anyhow::Result<ExitCode> {
     let best = match planning::best(wish) {
         Ok(channel) => Line(channel),
         Err(fault) => return refuse(rt, fault, wish),
@@ -40,27 +40,27 @@ fn show(rt: &HostRuntime, wish: Wish) -> anyhow::Result<()> {
         writeln!(out, "{line}")?;
     }
     out.flush()?;
-    Ok(())
+    Ok(ExitCode::SUCCESS)
 }
 
 // The best channel's bytes.
-fn write_raw(rt: &HostRuntime, wish: Wish) -> anyhow::Result<()> {
+fn write_raw(rt: &HostRuntime, wish: Wish) -> anyhow::Result<ExitCode> {
     match planning::best(wish) {
         Ok(channel) => {
             rt.stdout().write_all(&plan_words::bytes(channel))?;
-            Ok(())
+            Ok(ExitCode::SUCCESS)
         }
         Err(fault) => refuse(rt, fault, wish),
     }
 }
 
-fn main(rt: HostRuntime) -> anyhow::Result<()> {
+fn main(rt: HostRuntime) -> anyhow::Result<ExitCode> {
     let texts = env::args(&rt)?.skip(1).collect::<Vec<String>>(rt.alloc())?;
     let words = plan_words::words_of(rt.alloc(), &texts)?;
     match plan_words::read_words(&words) {
         Ok(Request::Help) => {
             print!(rt; "{USAGE}")?;
-            Ok(())
+            Ok(ExitCode::SUCCESS)
         }
         Ok(Request::Plan(wish)) => show(&rt, wish),
         Ok(Request::Raw(wish)) => write_raw(&rt, wish),

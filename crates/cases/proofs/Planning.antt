@@ -1,12 +1,12 @@
 -- The channel for nine thousand senders: a narrower one has too few senders or too short messages, or its q is none; one as wide with fewer digits has too few senders.
 -- best_row. Assumes nothing.
-use Rattle.std.proofs.Common.{◌≡◌, ℕ, zero, suc, ◌+◌, ◌-◌, ◌*◌, ◌^◌, ◌<◌, ◌≤◌, true, false, T, refl, ap, ◌∙◌, subst, ⊎_elim, arith, lit≤}
+use Rattle.std.proofs.Common.{◌≡◌, ℕ, zero, suc, ◌-◌, ◌*◌, ◌^◌, ◌<◌, ◌≤◌, T, refl, subst, ⊎_elim, arith, lit≤}
 use native.Mathlib.Nat.{pow-le-pow_left, pow-le-pow_right}
 use Rattle.cases.specs.Rows.{channel}
 use Rattle.planning.proofs.Order.{before_cases}
-use Rattle.planning.specs.Wishes.{Before, Best, Serves}
+use Rattle.planning.specs.Wishes.{Best}
 use Rattle.planning.specs.declared.wish.Wish.{Wish}
-use Rattle.speakall.specs.Plan.{Channel, listed, sides, size}
+use Rattle.speakall.specs.Plan.{listed, sides}
 
 abbrev wish : Wish
 wish = record { senders = 9000; others = 9; numbers = 10 }

@@ -1,6 +1,6 @@
 -- In how many parts two plans have one slot, one part after the other.
 -- meet_none, meet-same, meet-other, meets_seldom. Assumes nothing.
-use Rattle.std.proofs.Common.{◌≡◌, ℕ, suc, ◌+◌, ◌-◌, ◌≤◌, cond, eqb, List, sym, refl, ap, ◌∙◌, add-one, arith}
+use Rattle.std.proofs.Common.{◌≡◌, ℕ, ◌+◌, ◌-◌, ◌≤◌, List, refl, add-one, arith}
 use Rattle.std.proofs.lemmas.Bool.{eq-eqb, ne_eqb}
 use Rattle.speakall.specs.Plan.{Channel, Good, IsPlan, slot_at}
 use Rattle.speakall.specs.Promise.{meet}

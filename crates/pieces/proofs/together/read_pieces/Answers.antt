@@ -24,4 +24,4 @@ returns c =
     }
 
 pub returns-in_err-reader : goal.returns-in_err-reader
-returns-in_err-reader c = let p = err_from_is_err_and c.from-residual.result c.from-residual.ensures.1 in rw (p.1, p.2) c.in_err-reader.ensures.0
+returns-in_err-reader c = let p = err_from_is_err_and c.from_residual.result c.from_residual.ensures.1 in rw (p.1, p.2) c.in_err-reader.ensures.0

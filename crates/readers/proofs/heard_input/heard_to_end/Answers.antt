@@ -22,7 +22,7 @@ loop-left-preserved c =
     let l = (heard_lawful c.args.channel.q).sized c.loop-left.low c.loop-left.left.now c.in-Whole.heard (sym c.first.ensures ∙ c.in-Whole.is) in
     let there : c.size-size.result ≤ length c.loop-left.left.now = rw c.size-size.ensures l.1 in (
       loop-more (heard_format c.args.channel.q) (heard_lawful c.args.channel.q) (vec_items c.loop-left.records) c.loop-left.low c.loop-left.byte c.loop-left.left.now _ c.loop-left.invariant.0
-          (vec_items c.push.new.self) (c.place-low.result + 1) c.size-size.result c.in-Whole.heard (sym c.first.ensures ∙ c.in-Whole.is) c.in_ok-push.ensures.items
+          (vec_items c.push.new.self) (c.place-low.result + 1) c.size-size.result c.in-Whole.heard (sym c.first.ensures ∙ c.in-Whole.is) c.in_ok-push-in-Whole.ensures.items
           (ap (λ (n : ℕ). n + 1) c.place-low.ensures) c.size-size.ensures,
       left_more c.loop-left.left.now c.loop-left.byte c.size-size.result _ there c.loop-left.invariant.1,
     )

@@ -29,7 +29,7 @@ pub loop-left-preserved : goal.loop-left-preserved
 loop-left-preserved c =
     let w = message_there _ c.loop-left.left.now c.in-Whole.count c.from.result c.in-Whole.ensures.numbers c.in-Whole.ensures.count c.from.ensures in (
       message_more (size (settings c.args.channel)) (vec_items c.loop-left.numbers) (vec_items c.add_numbers.new.numbers) c.loop-left.byte _ c.in-Whole.count c.loop-left.left.now _
-          c.in-Whole.ensures.numbers w.1 (ap (λ (n : ℕ). 2 + 4 * n) c.from.ensures) c.in_ok-add_numbers.ensures c.loop-left.invariant.0,
+          c.in-Whole.ensures.numbers w.1 (ap (λ (n : ℕ). 2 + 4 * n) c.from.ensures) c.in_ok-add_numbers-in-Whole.ensures c.loop-left.invariant.0,
       left_more c.loop-left.left.now c.loop-left.byte _ _ w.0 c.loop-left.invariant.1,
     )
 

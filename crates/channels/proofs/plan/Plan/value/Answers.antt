@@ -1,4 +1,4 @@
-use Rattle.std.proofs.Common.{arith, rules}
+use Rattle.std.proofs.Common.{rules}
 use Rattle.channels.proofs.Digits.{slot_lower, slot_none}
 use Rattle.channels.proofs.plan.Plan.value.Goals as goal
 

@@ -3,4 +3,4 @@ use Rattle.pieces.proofs.Stepping.{channel-waits}
 use Rattle.pieces.proofs.heard_reader.HeardReader.new.Goals as goal
 
 pub invariant_of-result : goal.invariant_of-result
-invariant_of-result c = (search rules, (channel-waits, tt))
+invariant_of-result c = record { few = search rules; waits = channel-waits }

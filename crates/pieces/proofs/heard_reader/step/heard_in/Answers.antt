@@ -8,7 +8,7 @@ use Rattle.pieces.proofs.Stepping.{heard-waits, heard-whole, heard_wrong}
 use Rattle.pieces.proofs.heard_reader.step.heard_in.Goals as goal
 
 pub invariant_of-result : goal.invariant_of-result
-invariant_of-result c = (search rules, (heard-waits _ _, tt))
+invariant_of-result c = record { few = search rules; waits = heard-waits _ _ }
 
 pub invariant_of-result-in-Short : goal.invariant_of-result-in-Short
 invariant_of-result-in-Short c =
@@ -16,7 +16,7 @@ invariant_of-result-in-Short c =
     let short = rw c.from.ensures at (sym c.in-Short.ensures) in
     let few = heard_short c.args.channel.q c.args.low (take (c.args.before + 1) c.args.held) short in
     let long = length-take-le (c.args.before + 1) c.args.held (omega (arith, c.requires.few)) in
-    (omega arith, (ap is_short short, tt))
+    record { few = omega arith; waits = ap is_short short }
 
 pub returns-in-Whole : goal.returns-in-Whole
 returns-in-Whole c = λ more.

@@ -55,9 +55,9 @@ taken_back c f x y n w h s l =
     let t = tested_some c f x y bs n w h (record { said = refl; speaks = s; below = l }) in
     ap (λ b. cond b (One (sender_in bs) (word_in bs)) Noise) t.0 ∙ ap (λ (z : ℕ). One z (word_in bs)) (sym t.1) ∙ ap (One n) (sym t.2)
 
-placed_one : (c : Channel) (f x y : ℕ) (what : What) (s : List Slot) → placed c f (record_with f x y (Some what)) s ≡ set s (x * c.q + y) (taken_for c f x y what)
+placed_one_lem : (c : Channel) (f x y : ℕ) (what : What) (s : List Slot) → placed c f (record_with f x y (Some what)) s ≡ set s (x * c.q + y) (taken_for c f x y what)
 unfolding placed
-placed_one c f x y what s = ap (λ b. cond b (set s (x * c.q + y) (taken_for c f x y what)) s) (eq-eqb f f refl)
+placed_one_lem c f x y what s = ap (λ b. cond b (set s (x * c.q + y) (taken_for c f x y what)) s) (eq-eqb f f refl)
 
 placed-append : (c : Channel) (f : ℕ) (as' bs : List Heard) (s : List Slot) → placed c f (as' ++ bs) s ≡ placed c f bs (placed c f as' s)
 unfolding placed
@@ -101,8 +101,8 @@ filled_more : (c : Channel) (f : ℕ) (slots : List Slot) (n x y : ℕ) (s : Lis
 unfolding placed
 filled_more c f slots n x y s Silence h l at e o k = filled_silent slots n s e k
 filled_more c f slots n x y s (One m w) h l at e o k =
-    rw (placed_one c f x y (Word (air_bytes m (f % 256) w x)) s, at, taken_back c f x y m w h o.0 o.1) (filled-set slots n s (One m w) l e k)
-filled_more c f slots n x y s Noise h l at e o k = rw (placed_one c f x y NoiseHeard s, at) (filled-set slots n s Noise l e k)
+    rw (placed_one_lem c f x y (Word (air_bytes m (f % 256) w x)) s, at, taken_back c f x y m w h o.0 o.1) (filled-set slots n s (One m w) l e k)
+filled_more c f slots n x y s Noise h l at e o k = rw (placed_one_lem c f x y NoiseHeard s, at) (filled-set slots n s Noise l e k)
 
 filled : (c : Channel) (f : ℕ) (ss : List Speaker) (slots : List Slot) → c.q ^ c.d ≤ 65536 → 0 < c.q → length slots ≡ c.q * c.q → there_in (c.q ^ c.d) slots ≡ true → Hears c ss slots →
     (n : ℕ) → n ≤ c.q * c.q → Filled slots n (placed c f (records_to c.q f slots n) (replicate (c.q * c.q) Silence))

@@ -4,8 +4,8 @@ use Rattle.std.proofs.Common.{◌≡◌, ℕ, ◌*◌, ◌^◌, ◌<◌, true, �
 use Rattle.std.specs.List.{flat_map}
 use Rattle.channels.specs.Settings.{settings}
 use Rattle.channels.specs.declared.channel.Channel.{Channel as CodeChannel}
-use Rattle.faults.specs.declared.fault.Fault.{Fault}
-use Rattle.faults.specs.declared.fault.Fault.TheVariants.{Memory}
+use Rattle.channels.specs.declared.fault.Fault.{Fault}
+use Rattle.channels.specs.declared.fault.Fault.TheVariants.{Memory}
 use Rattle.frames.specs.Slots.{there_in}
 use Rattle.frames.specs.declared.slot.Slot.{Slot}
 use Rattle.records.specs.Channels.{bytes_of_channel}

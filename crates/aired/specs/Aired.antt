@@ -1,8 +1,8 @@
 -- What is heard in a frame, as records, and what records are taken for.
 -- what_if, record_with, records_to, records_of, taken_for, taken_as, outside_one, outside, placed_one, placed, Kept, bytes_of, Returned. Assumes nothing.
 use Rattle.std.specs.Prelude.{◌≡◌, ℕ, zero, suc, ◌+◌, ◌*◌, ◌/◌, ◌%◌, ◌^◌, true, cond, ◌&&◌, List, [], ◌∷◌, ◌++◌, length, Some, None, Option, ◌==◌, nat_lt, slice_index_or, slice_set}
-use Rattle.faults.specs.declared.fault.Fault.{Fault}
-use Rattle.faults.specs.declared.fault.Fault.TheVariants.{Order as FaultOrder}
+use Rattle.channels.specs.declared.fault.Fault.{Fault}
+use Rattle.channels.specs.declared.fault.Fault.TheVariants.{Order as FaultOrder}
 use Rattle.frames.specs.declared.slot.Slot.{Slot}
 use Rattle.frames.specs.declared.slot.Slot.TheVariants.{Silence, One, Noise}
 use Rattle.frames.specs.Slots.{Hears, there_in}

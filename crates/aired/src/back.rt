@@ -2,11 +2,10 @@
 ghost use Rattle.std.specs.Prelude.{◌≡◌, ◌*◌, ◌⊎◌, replicate, IfOk, Some, None, MatchResult};
 ghost use Rattle.aired.specs.Aired.{Kept, outside, outside_one, placed, placed_one, taken_as};
 ghost use Rattle.channels.specs.Settings.{settings};
-ghost use Rattle.faults.specs.declared.fault.Fault.TheVariants.{Memory as FaultMemory};
+ghost use Rattle.channels.specs.declared.fault.Fault.TheVariants.{Memory as FaultMemory};
 ghost use Rattle.frames.specs.declared.slot.Slot.TheVariants.{Silence};
 
-use channels::Channel;
-use faults::Fault;
+use channels::{Channel, Fault};
 use frames::{Frame, Slot};
 use records::{Heard, What};
 use std::alloc::Global;

@@ -2,12 +2,11 @@
 ghost use Rattle.std.specs.Prelude.{◌≡◌, ◌*◌, ◌^◌, true, ◌++◌, length, MatchResult};
 ghost use Rattle.aired.specs.Aired.{record_with, records_of, what_if};
 ghost use Rattle.channels.specs.Settings.{settings};
-ghost use Rattle.faults.specs.declared.fault.Fault.TheVariants.{Memory as FaultMemory};
+ghost use Rattle.channels.specs.declared.fault.Fault.TheVariants.{Memory as FaultMemory};
 ghost use Rattle.frames.specs.Slots.{is_there, there_in};
 ghost use Rattle.std.specs.Option.{option_to_list};
 
-use channels::Channel;
-use faults::Fault;
+use channels::{Channel, Fault};
 use frames::{Frame, Slot};
 use records::{Heard, What};
 use std::alloc::Global;

@@ -1,12 +1,12 @@
 // A frame on its way through bytes: written as an input of what was heard, the channel first, and read back from it.
 ghost use Rattle.aired.specs.Aired.{Returned, bytes_of};
 ghost use Rattle.channels.specs.Settings.{settings};
-ghost use Rattle.faults.specs.declared.fault.Fault.TheVariants.{Memory as FaultMemory};
+ghost use Rattle.channels.specs.declared.fault.Fault.TheVariants.{Memory as FaultMemory};
 ghost use Rattle.std.specs.Prelude.{◌≡◌, IfOk, MatchResult};
 
 use crate::back::frame_of;
 use crate::records::records_of;
-use faults::Fault;
+use channels::Fault;
 use frames::Frame;
 use readers::read_heard_input;
 use std::alloc::Global;

@@ -1,7 +1,7 @@
 -- The record of what is told of a frame in place of a message.
 -- sender_of, telling_bytes, bytes_of_telling, bytes_of_told, told_as, told_in. Assumes nothing.
 use Rattle.std.specs.Prelude.{ℕ, cond, ◌&&◌, List, [], ◌∷◌, ◌++◌, ◌==◌, slice_index}
-use Rattle.faults.specs.declared.fault.Fault.TheVariants.{Kind as FaultKind}
+use Rattle.channels.specs.declared.fault.Fault.TheVariants.{Kind as FaultKind}
 use Rattle.records.specs.Kinds.{of_kind}
 use Rattle.records.specs.declared.found.Found.{Found}
 use Rattle.records.specs.declared.found.Found.TheVariants.{Whole, Wrong}

@@ -1,11 +1,11 @@
 // A message that was read: the byte 4, the frame (4), the sender (3), how many of its words were heard (1), how many of these
 // are off (1), how many numbers the message has (1), and the numbers (4 each).
 ghost use Rattle.std.specs.Prelude.{◌≡◌, ℕ, ◌+◌, ◌*◌, ◌^◌, ◌<◌, ◌≤◌, List, ◌++◌, length, IfOk, MatchResult};
-ghost use Rattle.faults.specs.declared.fault.Fault.TheVariants.{Sender as FaultSender};
+ghost use Rattle.channels.specs.declared.fault.Fault.TheVariants.{Sender as FaultSender};
 ghost use Rattle.answers.specs.Readings.{bytes_of_read, read_in, read_size};
 ghost use Rattle.records.specs.declared.found.Found.TheVariants.{Whole};
 
-use faults::Fault;
+use channels::Fault;
 use records::Found;
 
 // The kind of the record.

@@ -1,12 +1,12 @@
 // What is told of a frame in place of a message: the byte 5, the frame (4), the sender (3), the fault's number (1), and how many
 // words were heard of the sender (1). Where too many senders were heard, the sender and the count are 0.
 ghost use Rattle.std.specs.Prelude.{◌≡◌, ℕ, ◌^◌, ◌<◌, ◌≤◌, List, ◌++◌, IfOk, MatchResult};
-ghost use Rattle.faults.specs.declared.fault.Fault.TheVariants.{Sender as FaultSender};
+ghost use Rattle.channels.specs.declared.fault.Fault.TheVariants.{Sender as FaultSender};
 ghost use Rattle.answers.specs.Telling.{bytes_of_told, sender_of, telling_bytes, told_as, told_in};
 ghost use Rattle.records.specs.declared.found.Found.TheVariants.{Whole};
 
 use crate::read::SENDERS;
-use faults::Fault;
+use channels::Fault;
 use records::Found;
 
 // The kind of the record.

@@ -1,5 +1,5 @@
 -- What is heard in the slots of a frame, in the code's terms and in the statement's.
--- joined, own_word, slot_in, Said, is_there, there_in, slot_of, Hears, refusal, speaker, Spoke. Assumes nothing.
+-- joined, own_word, slot_in, Said, is_there, there_in, misplaced, slot_of, Hears, refusal, speaker, Spoke. Assumes nothing.
 use Rattle.std.specs.Prelude.{◌≡◌, ℕ, ◌+◌, ◌*◌, ◌^◌, ◌<◌, ◌≤◌, Bool, true, cond, ◌&&◌, List, [], ◌∷◌, length, Some, None, Option, ◌==◌, ◌≢◌, nat_lt, slice_index_or}
 use Rattle.channels.specs.declared.fault.Fault.{Fault}
 use Rattle.channels.specs.declared.fault.Fault.TheVariants as fault
@@ -42,6 +42,10 @@ is_there n Noise = true
 unfoldable pub there_in : ℕ → List Slot → Bool
 there_in n [] = true
 there_in n (s ∷ ss) = is_there n s && there_in n ss
+
+-- why a slot cannot be put there: a part or slot that isn't there, or the word of a sender that isn't
+abbrev pub misplaced : Channel → (x y : ℕ) → Slot → Option Fault
+misplaced c x y s = cond (nat_lt x c.q && nat_lt y c.q) (cond (is_there (c.q ^ c.d) s) None (Some fault.Sender)) (Some fault.Order)
 
 -- the code's slot as the statement's
 abbrev pub slot_of : Channel → Slot → statement.Slot

@@ -6,6 +6,7 @@ use crate::slot::Slot;
 use channels::Channel;
 
 mod hear;
+mod put;
 mod speak;
 mod words;
 
@@ -19,6 +20,20 @@ pub struct Frame {
 }
 
 impl Frame {
+    // The channel that the frame is of.
+    pub fn channel(&self) -> Channel
+        ensures { result ≡ self.now.channel }
+    {
+        self.channel
+    }
+
+    // What is heard in every slot: those of part 0 first, then those of part 1, and so on.
+    pub fn slots(&self) -> &[Slot]
+        ensures { result.now ≡ self.now.slots.items }
+    {
+        &self.slots
+    }
+
     // What is heard in a slot of a part; none for a part or slot that isn't there.
     pub fn slot(&self, part: u8, y: u8) -> Option<Slot>
         ensures { MatchOption result (part < self.now.channel.q → self.now.channel.q ≤ y) (λ s. (part < self.now.channel.q) × (y < self.now.channel.q) × (s ≡ slot_in self.now.channel.q self.now.slots.items part y)) }

@@ -1,5 +1,5 @@
 // What is heard in one slot of one part; a word stands in the case that holds it, beside its sender.
-ghost use Rattle.frames.specs.Slots.{joined, own_word};
+ghost use Rattle.frames.specs.Slots.{is_there, joined, own_word};
 ghost use Rattle.std.specs.Prelude.{◌≡◌};
 
 use messages::PartWord;
@@ -38,6 +38,16 @@ impl Slot {
                 }
             }
             Slot::Silence | Slot::Noise => None,
+        }
+    }
+
+    // Whether the word in the slot, if there is one, is of a sender below this number.
+    pub fn is_below(self, senders: u32) -> bool
+        ensures { result ≡ is_there senders self }
+    {
+        match self {
+            Slot::One { sender, .. } => sender < senders,
+            Slot::Silence | Slot::Noise => true,
         }
     }
 }

@@ -62,7 +62,11 @@ fn sections(heap: Global, channel: Channel, spoken: &[Spoken]) -> Result<[Vec<St
 }
 
 // Prints the channel's line and the sections, each after an empty line.
-fn show(rt: &HostRuntime, channel: Channel, sections: [Vec<String>; 4]) -> anyhow::Result<ExitCode> {
+fn show(
+    rt: &HostRuntime,
+    channel: Channel,
+    sections: [Vec<String>; 4],
+) -> anyhow::Result<ExitCode> {
     let mut out = BufWriter::new(rt.alloc(), rt.stdout())?;
     let line = Line(channel);
     writeln!(out, "{line}")?;

@@ -1,6 +1,6 @@
 -- Lists that grow by an item at a time: numbers as text, and the slots of a plan.
 -- spaced_none, spaced_more, spaced_all; slots_none, slots_more. Assumes nothing.
-use Rattle.std.proofs.Common.{◌≡◌, ℕ, ◌+◌, ◌<◌, ◌≤◌, List, [], ◌∷◌, ◌++◌, length, get_or, take, codes, decimal, sym, refl, ap, ◌∙◌, append_assoc, add-one}
+use Rattle.std.proofs.Common.{◌≡◌, ℕ, ◌+◌, ◌<◌, ◌≤◌, List, [], ◌∷◌, ◌++◌, length, get_or, take, codes, decimal, sym, ap, ◌∙◌, append_assoc, add-one}
 use Rattle.std.proofs.lemmas.List.{append-nil, take_all, take_more}
 use Rattle.speakall.specs.Plan.{Plan, slot_at}
 use Rattle.speakall.specs.Promise.{table_of}

@@ -1,11 +1,10 @@
 // In how many parts of a frame two senders meet.
 ghost use Rattle.std.specs.Prelude.{◌≡◌, ◌^◌, ◌≤◌, ◌⊎◌, Some, MatchResult};
 ghost use Rattle.channels.specs.Settings.{settings};
-ghost use Rattle.faults.specs.declared.fault.Fault.TheVariants.{Sender as FaultSender};
+ghost use Rattle.channels.specs.declared.fault.Fault.TheVariants.{Sender as FaultSender};
 ghost use Rattle.ice_meetings.specs.Meets.{MeetingOf, meeting_text, parts_of};
 
-use channels::{Channel, Plan};
-use faults::Fault;
+use channels::{Channel, Fault, Plan};
 use std::fmt;
 
 // `part` or `parts`, as the count asks.

@@ -4,8 +4,7 @@ ghost use Rattle.channels.specs.Settings.{settings};
 ghost use Rattle.ice_meetings.specs.Meets.{counts_of, every_two, few_or_most, limit_text, lines_in, meeting_lines, meets_in, most_of, most_text, pair_text};
 
 use crate::meeting::{Meeting, parts};
-use channels::Channel;
-use faults::Fault;
+use channels::{Channel, Fault};
 use std::alloc::{AllocError, Global};
 
 // Of so many senders every two are told of.

@@ -3,8 +3,8 @@
 use Rattle.std.specs.Prelude.{◌≡◌, ◌⊎◌, List, map, Some, None, vec_items}
 use Rattle.channels.specs.Settings.{settings}
 use Rattle.channels.specs.declared.channel.Channel.{Channel}
-use Rattle.faults.specs.declared.fault.Fault.{Fault}
-use Rattle.faults.specs.declared.fault.Fault.TheVariants.{Memory}
+use Rattle.channels.specs.declared.fault.Fault.{Fault}
+use Rattle.channels.specs.declared.fault.Fault.TheVariants.{Memory}
 use Rattle.command_words.specs.Each.{Each}
 use Rattle.frames.specs.Slots.{Hears}
 use Rattle.frames.specs.Speakers.{refusal_in, speakers_in}

@@ -3,8 +3,7 @@ ghost use Rattle.ice_speakers.specs.Hearing.{HeardBy, UnheardBy};
 ghost use Rattle.std.specs.Result.{MatchResult};
 
 use crate::speakers::{numbers_of, speakers_of};
-use channels::Channel;
-use faults::Fault;
+use channels::{Channel, Fault};
 use frames::Frame;
 use sender_words::Spoken;
 use std::alloc::Global;

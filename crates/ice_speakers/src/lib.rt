@@ -13,7 +13,7 @@ pub use wide::channel_of;
 #[cfg(test)]
 mod tests {
     use super::*;
-    use faults::Fault;
+    use channels::Fault;
     use sender_words::Spoken;
     use std::test::Fail;
 

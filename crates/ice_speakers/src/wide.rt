@@ -2,11 +2,10 @@
 ghost use Rattle.std.specs.Prelude.{◌≡◌, ◌<◌, MatchResult};
 ghost use Rattle.channels.specs.Settings.{Made};
 ghost use Rattle.channels.specs.Valid.{Valid};
-ghost use Rattle.faults.specs.declared.fault.Fault.TheVariants.{Channel as FaultChannel};
+ghost use Rattle.channels.specs.declared.fault.Fault.TheVariants.{Channel as FaultChannel};
 ghost use Rattle.ice_speakers.specs.Wide.{narrow};
 
-use channels::Channel;
-use faults::Fault;
+use channels::{Channel, Fault};
 
 // The channel with these numbers, or `Fault::Channel` where there is none with a k below 256, which a channel's is.
 pub fn channel_of(q: u64, d: u64, k: u64) -> Result<Channel, Fault>

@@ -1,6 +1,6 @@
 // Readings at every border, of words written out and of words spoilt one after the other.
 use channels::Channel;
-use messages::{PartWord, Reading, read, word_at};
+use damage::{PartWord, Reading, read, word_at};
 use std::test::Fail;
 
 // How many words are heard, the words with their parts, and what is read of three numbers on the channel 5 2 2 and left in the lent memory.

@@ -3,7 +3,7 @@
 use Rattle.std.proofs.Common.{◌≡◌, ℕ, ◌+◌, ◌-◌, ◌^◌, ◌<◌, min, true, List, [], ◌∷◌, ◌++◌, length, Some, None, Option, sym, refl, ap, ◌∙◌, subst, ap₂, arith}
 use Rattle.std.proofs.lemmas.List.{append_assoc, drop_at, length-append}
 use Rattle.channels.specs.declared.channel.Channel.{Channel}
-use Rattle.faults.specs.declared.fault.Fault.{Fault}
+use Rattle.channels.specs.declared.fault.Fault.{Fault}
 use Rattle.channels.specs.Settings.{settings}
 use Rattle.records.specs.Channels.{channel_in}
 use Rattle.records.specs.Hearing.{after_heard, heard_in, in_order}

@@ -1,5 +1,5 @@
 // All pieces of an input, one after the other.
-ghost use Rattle.faults.specs.declared.fault.Fault.TheVariants.{Memory as FaultMemory};
+ghost use Rattle.channels.specs.declared.fault.Fault.TheVariants.{Memory as FaultMemory};
 ghost use Rattle.pieces.specs.Coming.{answered};
 ghost use Rattle.pieces.specs.Together.{Gives};
 ghost use Rattle.readers.specs.Inputs.{read_input};
@@ -8,7 +8,7 @@ ghost use Rattle.std.specs.List.{flat_map};
 ghost use Rattle.std.specs.Prelude.{◌≡◌, MatchResult};
 
 use crate::heard_reader::HeardReader;
-use faults::Fault;
+use channels::Fault;
 use readers::{HeardInput, HeardRead};
 use std::alloc::Global;
 

@@ -3,7 +3,7 @@
 use Rattle.std.specs.Prelude.{◌≡◌, ℕ, List, [], drop, Some, None, vec_items, Option}
 use Rattle.std.specs.List.{flat_map}
 use Rattle.channels.specs.declared.channel.Channel.{Channel}
-use Rattle.faults.specs.declared.fault.Fault.TheVariants.{Kind as FaultKind}
+use Rattle.channels.specs.declared.fault.Fault.TheVariants.{Kind as FaultKind}
 use Rattle.channels.specs.Settings.{settings}
 use Rattle.records.specs.Channels.{channel_in}
 use Rattle.records.specs.declared.found.Found.{Found}

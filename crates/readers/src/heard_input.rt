@@ -1,13 +1,12 @@
 // What was heard on a channel, read from bytes.
-ghost use Rattle.faults.specs.declared.fault.Fault.TheVariants.{Memory as FaultMemory};
+ghost use Rattle.channels.specs.declared.fault.Fault.TheVariants.{Memory as FaultMemory};
 ghost use Rattle.readers.specs.Inputs.{HeardInputIs, HeardIs, read_input};
 ghost use Rattle.reading.specs.Formats.{heard_format};
 ghost use Rattle.reading.specs.Reading.{FaultStays, LastLost, read_from};
 ghost use Rattle.std.specs.Prelude.{◌≡◌, MatchResult};
 
 use crate::no_channel::no_channel;
-use channels::Channel;
-use faults::Fault;
+use channels::{Channel, Fault};
 use reading::Stopped;
 use records::{Found, Heard, channel_first};
 use std::alloc::Global;

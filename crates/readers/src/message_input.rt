@@ -1,6 +1,6 @@
 // Messages to a sender, read from bytes.
 ghost use Rattle.channels.specs.Settings.{settings};
-ghost use Rattle.faults.specs.declared.fault.Fault.TheVariants.{Memory as FaultMemory};
+ghost use Rattle.channels.specs.declared.fault.Fault.TheVariants.{Memory as FaultMemory};
 ghost use Rattle.readers.specs.Inputs.{MessageInputIs, MessagesAre, read_input};
 ghost use Rattle.reading.specs.Formats.{message_format};
 ghost use Rattle.reading.specs.Reading.{FaultStays, LastLost, read_from};
@@ -9,8 +9,7 @@ ghost use Rattle.speakall.specs.Plan.{size};
 ghost use Rattle.std.specs.Prelude.{◌≡◌, ◌++◌, MatchResult};
 
 use crate::no_channel::no_channel;
-use channels::Channel;
-use faults::Fault;
+use channels::{Channel, Fault};
 use reading::Stopped;
 use records::{Found, channel_first, message_first};
 use std::alloc::Global;

@@ -2,8 +2,7 @@
 ghost use Rattle.readers.specs.Inputs.{no_channel};
 ghost use Rattle.std.specs.Prelude.{◌≡◌};
 
-use channels::Channel;
-use faults::Fault;
+use channels::{Channel, Fault};
 use reading::Stopped;
 use records::Found;
 

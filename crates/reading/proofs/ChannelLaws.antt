@@ -3,8 +3,8 @@
 use Rattle.std.proofs.Common.{◌≡◌, ℕ, ◌<◌, ◌≤◌, Bool, true, false, cond, List, ◌++◌, length, get_or, sym, ◌∙◌, ⊎_elim, arith}
 use Rattle.std.proofs.lemmas.List.{length-append, get_or_append_left}
 use Rattle.std.proofs.lemmas.Bool.{cases_lt, cases_eq}
-use Rattle.faults.specs.declared.fault.Fault.{Fault}
-use Rattle.faults.specs.declared.fault.Fault.TheVariants.{Kind as FaultKind}
+use Rattle.channels.specs.declared.fault.Fault.{Fault}
+use Rattle.channels.specs.declared.fault.Fault.TheVariants.{Kind as FaultKind}
 use Rattle.records.specs.Channels.{channel_in}
 use Rattle.records.specs.declared.found.Found.TheVariants.{Whole, Wrong, Short}
 use Rattle.records.proofs.Firsts.{first_none, first-other, first_cut, first_then}

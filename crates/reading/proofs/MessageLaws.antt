@@ -3,7 +3,7 @@
 use Rattle.std.proofs.Common.{◌≡◌, ℕ, ◌+◌, ◌*◌, ◌<◌, ◌≤◌, Bool, true, false, cond, ◌&&◌, eqb, List, ◌++◌, length, get_or, take, drop, sym, refl, ap, ◌∙◌, ⊎_elim, arith}
 use Rattle.std.proofs.lemmas.List.{length-append, length-take, length-take-le, drop-append-le, take-append-le, take-append-drop, get_or_append_left, get_or-take, length-drop}
 use Rattle.std.proofs.lemmas.Bool.{and_parts, cases_lt, cases_eq, eqb-true}
-use Rattle.faults.specs.declared.fault.Fault.TheVariants.{Kind as FaultKind, Message as FaultMessage}
+use Rattle.channels.specs.declared.fault.Fault.TheVariants.{Kind as FaultKind, Message as FaultMessage}
 use Rattle.records.specs.declared.found.Found.{Found}
 use Rattle.records.specs.declared.found.Found.TheVariants.{Whole, Wrong, Short}
 use Rattle.records.specs.Messages.{count_in, message_in, message_size, sized}

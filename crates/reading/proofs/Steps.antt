@@ -1,7 +1,7 @@
 -- One step of a reading, by what stands first.
 -- read_none, read_more, read_wrong, read_short. Assumes nothing.
 use Rattle.std.proofs.Common.{◌≡◌, ℕ, zero, suc, ◌+◌, ◌-◌, ◌<◌, ◌≤◌, List, [], ◌∷◌, length, drop, refl, ap, ◌∙◌, arith}
-use Rattle.faults.specs.declared.fault.Fault.{Fault}
+use Rattle.channels.specs.declared.fault.Fault.{Fault}
 use Rattle.records.specs.declared.found.Found.{Found}
 use Rattle.records.specs.declared.found.Found.TheVariants.{Whole, Wrong, Short}
 use Rattle.reading.specs.Reading.{Format, finished, cut_at, fault_at, onto, stepped, read_from}

@@ -1,8 +1,8 @@
 -- Records one after the other, read to their end or to the first fault.
 -- Format, Ending, Reading, stopped_at, onto, stepped, read_from; begun_before, FaultStays, LastLost. Assumes nothing.
 use Rattle.std.specs.Prelude.{◌≡◌, ℕ, zero, suc, ◌+◌, ◌-◌, ◌≤◌, List, [], ◌∷◌, ◌++◌, length, take, Some, None, Option}
-use Rattle.faults.specs.declared.fault.Fault.{Fault}
-use Rattle.faults.specs.declared.fault.Fault.TheVariants.{Kind as FaultKind}
+use Rattle.channels.specs.declared.fault.Fault.{Fault}
+use Rattle.channels.specs.declared.fault.Fault.TheVariants.{Kind as FaultKind}
 use Rattle.records.specs.declared.found.Found.{Found}
 use Rattle.records.specs.declared.found.Found.TheVariants.{Whole, Wrong, Short}
 use Rattle.reading.specs.declared.Stopped.{Stopped}

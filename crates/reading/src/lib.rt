@@ -2,7 +2,7 @@
 // The code that reads stands above: here are the definition of reading and what follows of it for records of any kind.
 #![tactic(auto)]
 
-use faults::Fault;
+use channels::Fault;
 
 // A fault, and the byte at which the faulty record begins, counted from 0 in the whole input.
 #[derive(Clone, Copy, PartialEq, Eq, Debug)]

@@ -1,7 +1,6 @@
 // Records of each kind, written to the bytes that they have, and refused at their borders.
 use answers::{Read, Telling, Told};
-use channels::Channel;
-use faults::Fault;
+use channels::{Channel, Fault};
 use records::{Heard, What};
 use std::test::Fail;
 use writers::{heard_input_bytes, write_message, write_read, write_told};

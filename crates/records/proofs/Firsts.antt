@@ -6,8 +6,8 @@ use Rattle.std.proofs.lemmas.List.{take_rest, length-take, length-drop}
 use Rattle.std.proofs.lemmas.Bool.{eqb-true, ltb-false}
 use Rattle.std.proofs.lemmas.Bool.Decides.{nat_tests}
 use Rattle.channels.specs.declared.channel.Channel.{Channel}
-use Rattle.faults.specs.declared.fault.Fault.{Fault}
-use Rattle.faults.specs.declared.fault.Fault.TheVariants.{Kind as FaultKind, Channel as FaultChannel}
+use Rattle.channels.specs.declared.fault.Fault.{Fault}
+use Rattle.channels.specs.declared.fault.Fault.TheVariants.{Kind as FaultKind, Channel as FaultChannel}
 use Rattle.channels.specs.Settings.{settings, Made}
 use Rattle.channels.specs.Valid.{Valid, is_valid}
 use Rattle.channels.proofs.Facts.{test_from_valid, fit_from_test}

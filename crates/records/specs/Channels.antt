@@ -2,7 +2,7 @@
 -- bytes_of_channel, Numbers, channel_in, IsChannel. Assumes nothing.
 use Rattle.std.specs.Prelude.{ℕ, cond, List, [], ◌∷◌, slice_index}
 use Rattle.channels.specs.declared.channel.Channel.{Channel}
-use Rattle.faults.specs.declared.fault.Fault.TheVariants.{Channel as FaultChannel}
+use Rattle.channels.specs.declared.fault.Fault.TheVariants.{Channel as FaultChannel}
 use Rattle.channels.specs.Settings.{settings}
 use Rattle.channels.specs.Valid.{is_valid}
 use Rattle.records.specs.Kinds.{of_kind}

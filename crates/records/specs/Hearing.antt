@@ -1,7 +1,7 @@
 -- The record of what was heard in a slot that isn't silent.
 -- place_of, after_heard, heard_size, bytes_of_heard, bytes_in, whole_in, ordered, heard_in. Assumes nothing.
 use Rattle.std.specs.Prelude.{ℕ, ◌+◌, ◌*◌, cond, ◌&&◌, List, [], ◌∷◌, ◌++◌, length, take, drop, ◌==◌, nat_le, nat_lt, slice_index}
-use Rattle.faults.specs.declared.fault.Fault.TheVariants.{Kind as FaultKind, Order as FaultOrder}
+use Rattle.channels.specs.declared.fault.Fault.TheVariants.{Kind as FaultKind, Order as FaultOrder}
 use Rattle.records.specs.Kinds.{of_kind}
 use Rattle.records.specs.declared.found.Found.{Found}
 use Rattle.records.specs.declared.found.Found.TheVariants.{Whole, Wrong, Short}

@@ -1,7 +1,7 @@
 -- What stands first in some bytes, by its kind.
 -- of_kind. Assumes nothing.
 use Rattle.std.specs.Prelude.{ℕ, cond, List, length, ◌==◌, nat_lt, slice_index}
-use Rattle.faults.specs.declared.fault.Fault.TheVariants.{Kind as FaultKind}
+use Rattle.channels.specs.declared.fault.Fault.TheVariants.{Kind as FaultKind}
 use Rattle.records.specs.declared.found.Found.{Found}
 use Rattle.records.specs.declared.found.Found.TheVariants.{Wrong, Short}
 

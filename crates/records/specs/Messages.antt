@@ -1,7 +1,7 @@
 -- The record of a message to a sender.
 -- message_size, bytes_of_message, count_in, numbers_after, sized, message_in. Assumes nothing.
 use Rattle.std.specs.Prelude.{ℕ, ◌+◌, ◌*◌, cond, ◌&&◌, List, ◌∷◌, length, take, drop, ◌==◌, nat_lt, slice_index}
-use Rattle.faults.specs.declared.fault.Fault.TheVariants.{Message as FaultMessage}
+use Rattle.channels.specs.declared.fault.Fault.TheVariants.{Message as FaultMessage}
 use Rattle.records.specs.Kinds.{of_kind}
 use Rattle.records.specs.declared.found.Found.{Found}
 use Rattle.records.specs.declared.found.Found.TheVariants.{Whole, Wrong, Short}

@@ -6,8 +6,7 @@ ghost use Rattle.records.specs.declared.found.Found.TheVariants.{Whole};
 ghost use Rattle.std.specs.Prelude.{◌≡◌, ℕ, List, ◌++◌};
 
 use crate::found::Found;
-use channels::Channel;
-use faults::Fault;
+use channels::{Channel, Fault};
 
 // The kind of the record.
 const CHANNEL: u8 = 1;

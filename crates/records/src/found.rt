@@ -1,5 +1,5 @@
 // What stands first in some bytes.
-use faults::Fault;
+use channels::Fault;
 
 #[derive(Clone, Copy, PartialEq, Eq, Debug)]
 pub enum Found<T> {

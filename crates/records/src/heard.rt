@@ -6,8 +6,7 @@ ghost use Rattle.records.specs.Numbers.{four_bytes};
 ghost use Rattle.records.specs.declared.found.Found.TheVariants.{Whole};
 
 use crate::found::Found;
-use channels::Channel;
-use faults::Fault;
+use channels::{Channel, Fault};
 
 // The kind of the record, and what was heard.
 const HEARD: u8 = 3;

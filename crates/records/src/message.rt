@@ -7,8 +7,7 @@ ghost use Rattle.std.specs.Prelude.{◌≡◌, [], ◌∷◌};
 
 use crate::found::Found;
 use crate::numbers::are_small;
-use channels::Channel;
-use faults::Fault;
+use channels::{Channel, Fault};
 
 // The kind of the record.
 const MESSAGE: u8 = 2;

@@ -2,4 +2,4 @@
 mod Items
 mod Said
 mod Taken
-mod Tested
+pub mod Tested

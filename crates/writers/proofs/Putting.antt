@@ -3,7 +3,7 @@
 use Rattle.std.proofs.Common.{◌≡◌, ℕ, ◌+◌, ◌<◌, ◌≤◌, List, [], ◌∷◌, ◌++◌, length, get_or, take, Ok, Err, Result, sym, refl, ap, ◌∙◌, inl, arith, MatchResult}
 use Rattle.std.proofs.lemmas.List.{append_assoc, append-nil, flat_map_more, length-append, take_all, take_at, take_more, take-take}
 use Rattle.std.specs.List.{flat_map}
-use Rattle.faults.specs.declared.fault.Fault.{Fault}
+use Rattle.channels.specs.declared.fault.Fault.{Fault}
 use Rattle.writers.specs.Written.{Begun, PutOr}
 
 module _ {X : Type 0} (f : X → List ℕ) (before : List ℕ) (xs : List X) where

@@ -1,8 +1,8 @@
 -- Bytes that were put behind others, or not.
 -- Put, Begun, PutOr. Assumes nothing.
 use Rattle.std.specs.Prelude.{◌≡◌, ℕ, ◌⊎◌, List, ◌++◌, length, take, Result, MatchResult}
-use Rattle.faults.specs.declared.fault.Fault.{Fault}
-use Rattle.faults.specs.declared.fault.Fault.TheVariants.{Memory as FaultMemory}
+use Rattle.channels.specs.declared.fault.Fault.{Fault}
+use Rattle.channels.specs.declared.fault.Fault.TheVariants.{Memory as FaultMemory}
 
 -- the bytes stand behind those before; without memory for them, only those before do
 abbrev pub Put : Result (Unit {0}) Fault → (before bytes now : List ℕ) → Type 0

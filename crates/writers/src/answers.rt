@@ -1,6 +1,6 @@
 // What a listener makes of a frame, written.
 ghost use Rattle.std.specs.Prelude.{◌≡◌, ◌^◌, ◌≤◌, ◌⊎◌, ◌++◌, length, ◌≢◌};
-ghost use Rattle.faults.specs.declared.fault.Fault.TheVariants.{Message as FaultMessage, Sender as FaultSender};
+ghost use Rattle.channels.specs.declared.fault.Fault.TheVariants.{Message as FaultMessage, Sender as FaultSender};
 ghost use Rattle.records.specs.Numbers.{bytes_of_numbers};
 ghost use Rattle.answers.specs.Readings.{bytes_of_read};
 ghost use Rattle.answers.specs.Telling.{bytes_of_told, sender_of};
@@ -8,7 +8,7 @@ ghost use Rattle.writers.specs.Written.{Begun, PutOr};
 
 use crate::put::{put, put_numbers, whole_or_none};
 use answers::{Read, Told};
-use faults::Fault;
+use channels::Fault;
 
 // Writes what is told behind the bytes that are there; `Fault::Sender` for a sender of 2^24 or above, `Fault::Memory` without
 // memory for it, and then they stay as they were.

@@ -1,6 +1,6 @@
 // A channel and what was heard on it, written.
 ghost use Rattle.channels.specs.Settings.{settings};
-ghost use Rattle.faults.specs.declared.fault.Fault.TheVariants.{Memory as FaultMemory};
+ghost use Rattle.channels.specs.declared.fault.Fault.TheVariants.{Memory as FaultMemory};
 ghost use Rattle.readers.specs.Inputs.{read_input};
 ghost use Rattle.reading.specs.Formats.{heard_format};
 ghost use Rattle.reading.specs.Reading.{finished};
@@ -12,8 +12,7 @@ ghost use Rattle.writers.specs.Order.{InOrder, ReadBack};
 ghost use Rattle.writers.specs.Written.{Begun, Put};
 
 use crate::put::put;
-use channels::Channel;
-use faults::Fault;
+use channels::{Channel, Fault};
 use records::{Heard, HeardBytes, channel_bytes};
 use std::alloc::Global;
 

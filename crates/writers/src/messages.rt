@@ -1,12 +1,12 @@
 // Messages to a sender, written.
 ghost use Rattle.std.specs.Prelude.{◌≡◌, ◌<◌, length};
-ghost use Rattle.faults.specs.declared.fault.Fault.TheVariants.{Message as FaultMessage};
+ghost use Rattle.channels.specs.declared.fault.Fault.TheVariants.{Message as FaultMessage};
 ghost use Rattle.records.specs.Messages.{bytes_of_message};
 ghost use Rattle.writers.specs.Order.{MessagesBack};
 ghost use Rattle.writers.specs.Written.{Begun, PutOr};
 
 use crate::put::{put, put_numbers, whole_or_none};
-use faults::Fault;
+use channels::Fault;
 use records::message_head;
 
 // Writes a message of so many numbers; where memory fails, some of it.

@@ -3,7 +3,7 @@ ghost use Rattle.records.specs.Numbers.{bytes_of_numbers};
 ghost use Rattle.std.specs.Prelude.{◌≡◌, take, MatchResult};
 ghost use Rattle.writers.specs.Written.{Begun, Put};
 
-use faults::Fault;
+use channels::Fault;
 
 // Puts these bytes behind those that are there.
 pub fn put(out: &mut Vec<u8>, bytes: &[u8]) -> Result<(), Fault>

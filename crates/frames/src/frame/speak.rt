@@ -1,8 +1,9 @@
 // Senders speak in a frame, one after the other.
-ghost use Rattle.std.specs.Prelude.{◌≡◌, ℕ, ◌+◌, ◌*◌, ◌^◌, ◌<◌, true, [], length, Some, MatchResult, slice_set};
+ghost use Rattle.std.specs.Prelude.{◌≡◌, ℕ, ◌+◌, ◌*◌, ◌^◌, ◌<◌, true, [], length, replicate, Some, MatchResult, slice_set};
 ghost use Rattle.channels.specs.Settings.{settings};
 ghost use Rattle.channels.specs.Plans.{plan_in};
 ghost use Rattle.frames.specs.Slots.{Hears, Said, Spoke, joined, refusal, slot_in, there_in};
+ghost use Rattle.frames.specs.declared.slot.Slot.TheVariants.{Silence as SlotSilence};
 ghost use Rattle.channels.specs.declared.fault.Fault.TheVariants.{Memory as FaultMemory};
 
 use super::{Frame, slot_at};
@@ -69,7 +70,7 @@ fn speak_in(channel: Channel, number: u32, message: &[u32], slots: &mut [Slot]) 
 impl Frame {
     // A frame of the channel in which nobody speaks; `Fault::Memory` where there is no memory for its slots.
     pub fn silent(heap: Global, channel: Channel) -> Result<Frame, Fault>
-        ensures { MatchResult result (λ f. (f.channel ≡ channel) × Hears (settings channel) [] f.slots.items) (λ e. e ≡ FaultMemory) }
+        ensures { MatchResult result (λ f. (f.channel ≡ channel) × Hears (settings channel) [] f.slots.items × (f.slots.items ≡ replicate (channel.q * channel.q) SlotSilence)) (λ e. e ≡ FaultMemory) }
     {
         let slots = vec![in heap; Slot::Silence; channel.slots() as usize]?;
         Ok(Frame { channel, slots })

@@ -1,5 +1,5 @@
 // Pieces of an input, one after the other, and its end.
-ghost use Rattle.faults.specs.declared.fault.Fault.TheVariants.{Memory as FaultMemory};
+ghost use Rattle.channels.specs.declared.fault.Fault.TheVariants.{Memory as FaultMemory};
 ghost use Rattle.pieces.specs.Readers.{Fed, coming_of};
 ghost use Rattle.readers.specs.Inputs.{settings_if};
 ghost use Rattle.std.specs.Prelude.{◌≡◌, [], ◌++◌, take, vec_len, MatchResult};
@@ -7,8 +7,7 @@ ghost use Rattle.std.specs.Option.{option_to_list};
 
 use super::HeardReader;
 use crate::phase::Phase;
-use channels::Channel;
-use faults::Fault;
+use channels::{Channel, Fault};
 use reading::Stopped;
 use records::Heard;
 

@@ -1,4 +1,4 @@
-use Rattle.std.proofs.Common.{vec_items, refl, arith}
+use Rattle.std.proofs.Common.{vec_items, arith}
 use Rattle.channels.specs.Settings.{settings}
 use Rattle.speakall.specs.Plan.{size}
 use Rattle.ice_words.proofs.Said.{said_none, said_more, said_all}

@@ -12,4 +12,4 @@ invariant_of-result c =
 pub returns : goal.returns
 returns c =
     let items = c.in_ok-slots.ensures.items_if_clones_equal (λ y e. e) ∙ ap (λ n. replicate n Silence) c.slots.ensures in
-    (refl, rw items (silent_hears (settings c.args.channel)))
+    (refl, rw items (silent_hears (settings c.args.channel)), items)

@@ -1,0 +1,3 @@
+-- Lemmas on the search for a message.
+pub mod Trying
+pub mod Answering

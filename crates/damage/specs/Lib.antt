@@ -1,0 +1,3 @@
+-- What the code of messages promises, over the statements.
+pub mod Made
+pub mod Seeking

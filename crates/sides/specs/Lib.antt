@@ -1,2 +1,0 @@
--- What the contracts of the table of inverses cite.
-pub mod Rows

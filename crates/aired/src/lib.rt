@@ -2,9 +2,9 @@
 #![tactic(auto)]
 
 mod back;
-mod records;
+mod recorded;
 pub mod whole;
 
 pub use back::{frame_of, taken};
-pub use records::records_of;
+pub use recorded::records_of;
 pub use whole::{Aired, through_bytes};

@@ -5,7 +5,7 @@ ghost use Rattle.channels.specs.declared.fault.Fault.TheVariants.{Memory as Faul
 ghost use Rattle.std.specs.Prelude.{◌≡◌, IfOk, MatchResult};
 
 use crate::back::frame_of;
-use crate::records::records_of;
+use crate::recorded::records_of;
 use channels::Fault;
 use frames::Frame;
 use readers::read_heard_input;

@@ -1,7 +1,7 @@
 -- The worked cases as rows of one table, and what it is for a row to hold, by the definitions that the contracts of the code cite.
 -- Row, channel, words_heard, Holds, five, five-long, three, table, Cases. Assumes nothing.
 use Rattle.std.specs.Prelude.{◌≡◌, ℕ, zero, suc, ◌^◌, cond, List, [], ◌∷◌, ◌++◌, map, ◌==◌}
-use Rattle.std.specs.List.{AllByRecursion as All}
+use Rattle.std.specs.List.{AllByRecursion}
 use Rattle.frames.specs.Slots.{speaker}
 use Rattle.messages.specs.Made.{Made}
 use Rattle.planning.specs.Wishes.{Best, slots}
@@ -80,4 +80,4 @@ table =
 
 -- the theorem: every row holds
 abbrev pub Cases : Type 0
-Cases = All Holds table
+Cases = AllByRecursion Holds table

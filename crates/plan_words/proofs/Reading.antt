@@ -1,7 +1,7 @@
 -- The words are read one after the other: those read are sound, and the answer is the one for all.
 -- Held, held_none, held_more, answer_stopped, answer_ended. Assumes nothing.
 use Rattle.std.proofs.Common.{◌≡◌, ℕ, ◌+◌, ◌<◌, ◌≤◌, Bool, true, false, ◌||◌, List, [], ◌∷◌, ◌++◌, length, get_or, take, sym, refl, ap, ◌∙◌, arith}
-use Rattle.std.specs.List.{AllByRecursion as All}
+use Rattle.std.specs.List.{AllByRecursion}
 use Rattle.std.proofs.lemmas.List.{get_or_default, take_all, take_more}
 use Rattle.std.proofs.ByRecursion.{All-push}
 use Rattle.plan_words.specs.declared.word.Word.{Word}
@@ -29,7 +29,7 @@ raw_append (word.NoNumber ∷ vs) ws = raw_append vs ws
 
 -- what was kept of the words read so far
 pub record Held (r : Bool) (n : Numbers) (ws : List Word) : Type 0 where
-  pub fine : All Fine ws
+  pub fine : AllByRecursion Fine ws
   pub numbers : numbers_of ws ≡ list_of n
   pub raw : is_raw ws ≡ r
 

@@ -2,7 +2,7 @@
 -- number_of, IsNumber, Dashed, Means; numbers_of, is_raw, Fine, Sound, StopsAt, wished, Answer; list_of, Stops, Joins, stopped_by, ended_with, place_of, AllMeant. Assumes nothing.
 use Rattle.std.specs.Prelude.{◌≡◌, ℕ, ◌^◌, ◌<◌, ◌≤◌, Bool, true, false, cond, ◌||◌, List, [], ◌∷◌, ◌++◌, length, take, Some, None, Ok, Err, string_bytes, codes, Option, Result, String, ◌≢◌, slice_index, slice_index_or}
 use Rattle.std.specs.Str.Parse.{IsNumeral, without_leading_plus, digits_value}
-use Rattle.std.specs.List.{AllByRecursion as All}
+use Rattle.std.specs.List.{AllByRecursion}
 use Rattle.std.specs.declared.alloc.Global.{Global}
 use Rattle.planning.specs.declared.wish.Wish.{Wish}
 use Rattle.plan_words.specs.declared.word.Word.{Word}
@@ -61,7 +61,7 @@ Fine word.NoNumber = ⊥
 
 -- nothing but `--raw` and numbers, of which there are three at most
 pub record Sound (ws : List Word) : Type 0 where
-  pub fine : All Fine ws
+  pub fine : AllByRecursion Fine ws
   pub few : length (numbers_of ws) ≤ 3
 
 -- this word stands at this place, and those before it are sound

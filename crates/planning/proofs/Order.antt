@@ -1,7 +1,7 @@
 -- The order by slots and then d is that by q and then d.
 -- before_from, before_cases, order_push. Assumes nothing.
 use Rattle.std.proofs.Common.{◌≡◌, ℕ, ◌+◌, ◌*◌, ◌<◌, ◌≤◌, ◌⊎◌, List, [], ◌∷◌, ◌++◌, ap, inl, inr, ⊎_elim, mul-le-mul, arith}
-use Rattle.std.specs.List.{AllByRecursion as All}
+use Rattle.std.specs.List.{AllByRecursion}
 use Rattle.std.proofs.ByRecursion.{All-push}
 use Rattle.std.proofs.lemmas.Bool.{cases_order}
 use Rattle.speakall.specs.Plan.{Channel}
@@ -24,6 +24,6 @@ before_cases a b s =
     (λ o. ⊎_elim (λ l. inl l) (λ l. let m = square_lt b.q a.q l in absurd (⊎_elim (λ t. omega arith) (λ t. omega arith) s)) o)
     (cases_order a.q b.q)
 
-pub order_push : (cs : List Channel) (c : Channel) → InOrder cs → All (λ b. Before b c) cs → InOrder (cs ++ (c ∷ []))
+pub order_push : (cs : List Channel) (c : Channel) → InOrder cs → AllByRecursion (λ b. Before b c) cs → InOrder (cs ++ (c ∷ []))
 order_push [] c o a = (tt, tt)
 order_push (b ∷ cs) c o a = (All-push (Before b) cs c o.0 a.0, order_push cs c o.1 a.1)

@@ -1,7 +1,7 @@
 -- What it is for a channel to serve what is asked, and which of those that serve come first.
 -- Fits, Serves, NoneServes, slots, Before, Best, InOrder, AllThatServe; asked, settings_of, Lowest, AllBefore. Assumes nothing.
 use Rattle.std.specs.Prelude.{◌≡◌, ℕ, ◌*◌, ◌^◌, ◌<◌, ◌≤◌, ◌⊎◌, List, [], ◌∷◌, map, Option, MatchOption, ◌≢◌}
-use Rattle.std.specs.List.{ContainsAt as Has, AllByRecursion as All}
+use Rattle.std.specs.List.{ContainsAt as Has, AllByRecursion}
 use Rattle.speakall.specs.Plan.{Channel, size}
 use Rattle.channels.specs.declared.channel.Channel.{Channel as CodeChannel}
 use Rattle.channels.specs.Settings.{settings}
@@ -38,11 +38,11 @@ pub record Best (w : Wish) (c : Channel) : Type 0 where
 -- each comes before all that follow it, so none stands twice
 abbrev pub InOrder : List Channel → Type 0
 InOrder [] = Unit {0}
-InOrder (c ∷ cs) = All (Before c) cs × InOrder cs
+InOrder (c ∷ cs) = AllByRecursion (Before c) cs × InOrder cs
 
 -- all channels that serve, and only those, in order
 pub record AllThatServe (w : Wish) (cs : List Channel) : Type 0 where
-  pub only : All (Serves w) cs
+  pub only : AllByRecursion (Serves w) cs
   pub each : (c : Channel) → Serves w c → Has cs c
   pub order : InOrder cs
 
@@ -61,6 +61,6 @@ Lowest w q r =
 
 -- all channels that serve and come before this one, and only those, in order
 pub record AllBefore (w : Wish) (end : Channel) (cs : List Channel) : Type 0 where
-  pub only : All (λ c. Serves w c × Before c end) cs
+  pub only : AllByRecursion (λ c. Serves w c × Before c end) cs
   pub each : (c : Channel) → Serves w c → Before c end → Has cs c
   pub order : InOrder cs

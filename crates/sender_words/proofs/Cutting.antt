@@ -4,7 +4,7 @@ use Rattle.std.proofs.Common.{◌≡◌, ℕ, suc, ◌+◌, ◌<◌, Bool, true,
 use Rattle.command_words.specs.Each.{Each}
 use Rattle.command_words.specs.Numbers.{IsNumber}
 use Rattle.command_words.proofs.Grown.{each_push}
-use Rattle.std.specs.List.{AllByRecursion as All}
+use Rattle.std.specs.List.{AllByRecursion}
 use Rattle.std.proofs.lemmas.Bool.{eq-eqb, ne_eqb}
 use Rattle.sender_words.specs.Pieces.{Writes, after, before, pieces, up_to}
 
@@ -99,7 +99,7 @@ module _ (text rest ns : List ℕ) (h : Begun text rest ns) where
       let k : pieces 44 text ≡ h.front ++ (up_to 44 rest ∷ []) = h.parts ∙ ap (λ (z : List (List ℕ)). h.front ++ z) (pieces_none 44 rest e) in
       rw k (each_push Writes h.front ns (up_to 44 rest) n h.each w)
 
-all_at : {X : Type 0} (P : X → Type 0) (xs ys : List X) (x : X) → All P (xs ++ (x ∷ ys)) → P x
+all_at : {X : Type 0} (P : X → Type 0) (xs ys : List X) (x : X) → AllByRecursion P (xs ++ (x ∷ ys)) → P x
 all_at P [] ys x a = a.0
 all_at P (z ∷ zs) ys x a = all_at P zs ys x a.1
 
@@ -107,7 +107,7 @@ first_piece : (bs : List ℕ) (o : Option (List ℕ)) → after 44 bs ≡ o → 
 first_piece bs None e = ([], pieces_none 44 bs e)
 first_piece bs (Some ys) e = (pieces 44 ys, pieces_some 44 bs ys e)
 
-pub begun_wrong : (text rest ns : List ℕ) → Begun text rest ns → (IsNumber (up_to 44 rest) → ⊥) → All IsNumber (pieces 44 text) → ⊥
+pub begun_wrong : (text rest ns : List ℕ) → Begun text rest ns → (IsNumber (up_to 44 rest) → ⊥) → AllByRecursion IsNumber (pieces 44 text) → ⊥
 begun_wrong text rest ns h wrong a =
     let f = first_piece rest (after 44 rest) refl in
     let k : pieces 44 text ≡ h.front ++ (up_to 44 rest ∷ f.0) = h.parts ∙ ap (λ (z : List (List ℕ)). h.front ++ z) f.1 in

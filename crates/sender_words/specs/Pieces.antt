@@ -4,7 +4,7 @@ use Rattle.std.specs.Prelude.{◌≡◌, ℕ, cond, List, [], ◌∷◌, Some, N
 use Rattle.std.specs.Borrow.{Bor}
 use Rattle.command_words.specs.Each.{Each}
 use Rattle.command_words.specs.Numbers.{IsNumber, number_of}
-use Rattle.std.specs.List.{AllByRecursion as All}
+use Rattle.std.specs.List.{AllByRecursion}
 use Rattle.std.specs.declared.alloc.Global.{Global}
 
 -- what stands before the first c, or all of a text that has none
@@ -37,5 +37,5 @@ Writes text n = IsNumber text × (number_of text ≡ n)
 
 -- the numbers that stand between the commas; none exactly where one of them is no number
 abbrev pub Listed : List ℕ → Option (Vec ℕ Global) → Type 0
-Listed text None = All IsNumber (pieces 44 text) → ⊥
+Listed text None = AllByRecursion IsNumber (pieces 44 text) → ⊥
 Listed text (Some v) = Each Writes (pieces 44 text) (vec_items v)

@@ -7,7 +7,7 @@ use Rattle.sender_words.specs.Pieces.{Writes, after, pieces, up_to}
 use Rattle.sender_words.specs.declared.spoken.Spoken.{Spoken}
 use Rattle.sender_words.specs.declared.spoken.Wrong.{Wrong}
 use Rattle.sender_words.specs.declared.spoken.Wrong.TheVariants.{NoSender, NoMessage, Memory}
-use Rattle.std.specs.List.{AllByRecursion as All}
+use Rattle.std.specs.List.{AllByRecursion}
 use Rattle.std.specs.declared.alloc.Global.{Global}
 
 -- no message where nothing stands after `=`; else the numbers between the commas
@@ -20,7 +20,7 @@ Says (Some list) (Some v) = Each Writes (pieces 44 list) (vec_items v)
 -- something stands there that is no message
 abbrev pub Unsaid : Option (List ℕ) → Type 0
 Unsaid None = ⊥
-Unsaid (Some list) = All IsNumber (pieces 44 list) → ⊥
+Unsaid (Some list) = AllByRecursion IsNumber (pieces 44 list) → ⊥
 
 abbrev pub MessageIn : Option (List ℕ) → Result (Option (Vec ℕ Global)) Wrong → Type 0
 MessageIn list (Ok o) = Says list o

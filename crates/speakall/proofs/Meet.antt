@@ -1,7 +1,7 @@
 -- Two plans seldom meet (seldom_meet): two different polynomials of d coefficients agree at fewer than d points.
 -- Idea: list the parts below n at which two functions agree (`meets`), as many as `meet` counts; they are different points below q.
 use Rattle.std.proofs.Common.{◌≡◌, ℕ, zero, suc, ◌+◌, ◌-◌, ◌<◌, ◌≤◌, Bool, true, false, cond, T, eqb, List, [], ◌∷◌, length, sym, refl, ◌∙◌, ⊎_elim, arith}
-use Rattle.std.specs.List.{AllByRecursion as All}
+use Rattle.std.specs.List.{AllByRecursion}
 use Rattle.std.proofs.ByRecursion.{All-weaker}
 use Rattle.std.proofs.lemmas.Bool.{cond_both, cases_lt, eqb-true}
 use Rattle.speakall.specs.Plan.{Plan, slot_at, below}
@@ -25,12 +25,12 @@ module _ (f g : ℕ → ℕ) where
       split true ms r = omega arith
       split false ms r = omega arith
 
-  meets_below : (n : ℕ) → All (λ x. x < n) (meets n)
+  meets_below : (n : ℕ) → AllByRecursion (λ x. x < n) (meets n)
   unfolding meets
   meets_below zero = tt
   meets_below (suc n) =
       let r = All-weaker (λ x. x < n) (λ x. x < suc n) (λ x h. omega arith) (meets n) (meets_below n) in
-      cond_both (eqb (f n) (g n)) (n ∷ meets n) (meets n) (All (λ x. x < suc n)) (λ e. (omega arith, r)) (λ e. r)
+      cond_both (eqb (f n) (g n)) (n ∷ meets n) (meets n) (AllByRecursion (λ x. x < suc n)) (λ e. (omega arith, r)) (λ e. r)
 
   meets_spread : (q n : ℕ) → n ≤ q → Spread q (meets n)
   unfolding meets
@@ -39,10 +39,10 @@ module _ (f g : ℕ → ℕ) where
       let r = meets_spread q n (omega arith) in
       cond_both (eqb (f n) (g n)) (n ∷ meets n) (meets n) (Spread q) (λ e. (h, All-weaker (λ x. x < n) (λ x. x ≡ n → ⊥) (λ x l. omega arith) (meets n) (meets_below n), r)) (λ e. r)
 
-  meets_agree : (n : ℕ) → All (λ x. f x ≡ g x) (meets n)
+  meets_agree : (n : ℕ) → AllByRecursion (λ x. f x ≡ g x) (meets n)
   unfolding meets
   meets_agree zero = tt
-  meets_agree (suc n) = cond_both (eqb (f n) (g n)) (n ∷ meets n) (meets n) (All (λ x. f x ≡ g x)) (λ e. (eqb-true (f n) (g n) e, meets_agree n)) (λ e. meets_agree n)
+  meets_agree (suc n) = cond_both (eqb (f n) (g n)) (n ∷ meets n) (meets n) (AllByRecursion (λ x. f x ≡ g x)) (λ e. (eqb-true (f n) (g n) e, meets_agree n)) (λ e. meets_agree n)
 
 -- plans that have one slot in as many parts as they have coefficients are equal
 often_equal : (q : ℕ) (f g : Plan) → 0 < q → Units q q → length f ≡ length g → T (below q f) → T (below q g) → length f ≤ meet q (slot_at q f) (slot_at q g) q → f ≡ g

@@ -6,7 +6,7 @@
 use Rattle.std.proofs.Common.{◌≡◌, ℕ, suc, ◌+◌, ◌*◌, ◌%◌, ◌<◌, ◌≤◌, T, List, [], ◌∷◌, length, sym, refl, ap, ◌∙◌, mod-lt, mod-eq_of_lt, mul-zero, arith, ltb→lt, lt→ltb}
 use native.Mathlib.Nat.{mod-add-mod}
 use mir.Facts.{and_yes, yes_and}
-use Rattle.std.specs.List.{AllByRecursion as All}
+use Rattle.std.specs.List.{AllByRecursion}
 use Rattle.speakall.specs.Plan.{slot_at, below}
 use Rattle.speakall.specs.Frame.{p, word_at}
 use Rattle.speakall.proofs.Modulo.{add_cong, mul_mod_mod, mul_cong, same_cong, cancel, Gap, Units, gap_from_units}
@@ -77,13 +77,13 @@ below-tails m a (c ∷ cs) h = yes_and _ _ (lt→ltb _ _ (slot_at_lt m (c ∷ cs
 -- each two of the points have a difference with an inverse
 abbrev pub Gaps : ℕ → List ℕ → Type 0
 Gaps m [] = Unit {0}
-Gaps m (a ∷ ps) = All (λ x. Gap m x a) ps × Gaps m ps
+Gaps m (a ∷ ps) = AllByRecursion (λ x. Gap m x a) ps × Gaps m ps
 
 abbrev pub Agree : ℕ → List ℕ → List ℕ → List ℕ → Type 0
-Agree m f g ps = All (λ x. slot_at m f x ≡ slot_at m g x) ps
+Agree m f g ps = AllByRecursion (λ x. slot_at m f x ≡ slot_at m g x) ps
 
 -- the quotients by a agree at the other points
-carried : (m a c d : ℕ) (cs ds ps : List ℕ) → 0 < m → slot_at m (c ∷ cs) a ≡ slot_at m (d ∷ ds) a → All (λ x. Gap m x a) ps → Agree m (c ∷ cs) (d ∷ ds) ps → Agree m (tails m a cs) (tails m a ds) ps
+carried : (m a c d : ℕ) (cs ds ps : List ℕ) → 0 < m → slot_at m (c ∷ cs) a ≡ slot_at m (d ∷ ds) a → AllByRecursion (λ x. Gap m x a) ps → Agree m (c ∷ cs) (d ∷ ds) ps → Agree m (tails m a cs) (tails m a ds) ps
 carried m a c d cs ds [] pos e gaps ag = tt
 carried m a c d cs ds (x ∷ ps) pos e (gap, gaps) (at, ag) = (
   sym (mod-eq_of_lt (slot_at_lt m (tails m a cs) x pos)) ∙
@@ -107,13 +107,13 @@ agree_equal m (a ∷ ps) (c ∷ cs) (d ∷ ds) pos gaps e h bf bg (at, ag) =
 -- points below n that are all different
 abbrev pub Spread : ℕ → List ℕ → Type 0
 Spread n [] = Unit {0}
-Spread n (a ∷ ps) = (a < n) × All (λ x. x ≡ a → ⊥) ps × Spread n ps
+Spread n (a ∷ ps) = (a < n) × AllByRecursion (λ x. x ≡ a → ⊥) ps × Spread n ps
 
 pub gaps_from_units : (m n : ℕ) (ps : List ℕ) → 0 < m → Units m n → Spread n ps → Gaps m ps
 gaps_from_units m n [] pos us h = tt
 gaps_from_units m n (a ∷ ps) pos us (ha, ne, rest) = (each ps ne rest, gaps_from_units m n ps pos us rest)
   where
-    each : (xs : List ℕ) → All (λ x. x ≡ a → ⊥) xs → Spread n xs → All (λ x. Gap m x a) xs
+    each : (xs : List ℕ) → AllByRecursion (λ x. x ≡ a → ⊥) xs → Spread n xs → AllByRecursion (λ x. Gap m x a) xs
     each [] ne h = tt
     each (x ∷ xs) (d, ds) (hx, _, hs) = (gap_from_units m n pos us x a hx ha d, each xs ds hs)
 

@@ -5,7 +5,7 @@
 use Rattle.std.proofs.Common.{◌≡◌, ℕ, ◌+◌, ◌*◌, ◌≤◌, Bool, true, false, cond, not, ◌&&◌, T, eqb, List, [], ◌∷◌, length, sym, refl, ◌∙◌, arith, eqb→eq, ltb→lt, T_not}
 use lib.Dec.{eqb_refl}
 use mir.Facts.{and_yes, or_no}
-use Rattle.std.specs.List.{AllByRecursion as All}
+use Rattle.std.specs.List.{AllByRecursion}
 use Rattle.std.proofs.lemmas.Bool.{cond_both, and_parts, eqb-true, eq-eqb}
 use Rattle.speakall.specs.Plan.{below}
 use Rattle.speakall.specs.Frame.{p, Word, word_at, agrees}
@@ -46,10 +46,10 @@ module _ (m n : List ℕ) where
       λ e. let h = and_parts (on m w) (on n w) e in
       (sym (word_at_is m w.part) ∙ eqb-true _ _ h.0 ∙ sym (eqb-true _ _ h.1) ∙ word_at_is n w.part, both_agree ws)) (λ e. both_agree ws)
 
-  all_both : (P : ℕ → Type 0) (ws : List Word) → All P (parts_of ws) → All P (both ws)
+  all_both : (P : ℕ → Type 0) (ws : List Word) → AllByRecursion P (parts_of ws) → AllByRecursion P (both ws)
   unfolding parts_of both
   all_both P [] h = tt
-  all_both P (w ∷ ws) (h, hs) = cond_both (on m w && on n w) (w.part ∷ both ws) (both ws) (All P) (λ e. (h, all_both P ws hs)) (λ e. all_both P ws hs)
+  all_both P (w ∷ ws) (h, hs) = cond_both (on m w && on n w) (w.part ∷ both ws) (both ws) (AllByRecursion P) (λ e. (h, all_both P ws hs)) (λ e. all_both P ws hs)
 
   gaps_both : (ws : List Word) → Gaps p (parts_of ws) → Gaps p (both ws)
   unfolding parts_of both
@@ -60,7 +60,7 @@ module _ (m n : List ℕ) where
   pub near_equal : (ws : List Word) (s e : ℕ) → Gaps p (parts_of ws) → 2 * e + s ≤ length ws → length m ≡ s → length n ≡ s → T (below p m) → T (below p n) → off_of m ws ≤ e → off_of n ws ≤ e → m ≡ n
   near_equal ws s e gaps many lm ln bm bn om on = agree_equal p (both ws) m n (omega arith) (gaps_both ws gaps) (lm ∙ sym ln) (omega (arith, length_both ws)) bm bn (both_agree ws)
 
-lacks : (a : ℕ) (ws : List Word) → T (not (has_part a ws)) → All (λ x. x ≡ a → ⊥) (parts_of ws)
+lacks : (a : ℕ) (ws : List Word) → T (not (has_part a ws)) → AllByRecursion (λ x. x ≡ a → ⊥) (parts_of ws)
 unfolding has_part parts_of
 lacks a [] h = tt
 lacks a (w ∷ ws) h = (λ e. T_not (eqb a w.part) (or_no _ _ h).0 (rw e (eqb_refl a)), lacks a ws (or_no _ _ h).1)

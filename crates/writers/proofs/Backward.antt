@@ -3,7 +3,7 @@
 use Rattle.std.proofs.Common.{◌≡◌, ℕ, ◌+◌, ◌<◌, ◌≤◌, List, [], ◌∷◌, ◌++◌, length, Some, sym, refl, ap, ◌∙◌}
 use Rattle.std.proofs.lemmas.List.{drop_at}
 use Rattle.std.proofs.lemmas.Bool.{and_from, lt-ltb, le-leb}
-use Rattle.std.specs.List.{flat_map, AllByRecursion as All}
+use Rattle.std.specs.List.{flat_map, AllByRecursion}
 use Rattle.channels.specs.declared.channel.Channel.{Channel}
 use Rattle.channels.specs.Settings.{settings}
 use Rattle.records.specs.declared.found.Found.TheVariants.{Whole}
@@ -23,7 +23,7 @@ use Rattle.writers.specs.Order.{InOrder, MessagesBack, ReadBack}
 ordered-whole : (q low : ℕ) (h : Heard) → h.part < q → h.slot < q → low ≤ place_of h → in_order q low (Whole h) ≡ Whole h
 ordered-whole q low h p s l = rw (and_from _ _ (and_from _ _ (lt-ltb h.part q p) (lt-ltb h.slot q s)) (le-leb low (place_of h) l)) refl
 
-pub heard_back : (q low at : ℕ) (hs : List Heard) → All ReadBack hs → InOrder q low hs → read_from (heard_format q) low at 0 (flat_map bytes_of_heard hs) ≡ record { given = hs; ending = finished }
+pub heard_back : (q low at : ℕ) (hs : List Heard) → AllByRecursion ReadBack hs → InOrder q low hs → read_from (heard_format q) low at 0 (flat_map bytes_of_heard hs) ≡ record { given = hs; ending = finished }
 heard_back q low at [] a o = read_none (heard_format q) low at [] refl
 heard_back q low at (h ∷ hs) a o =
     let rest = flat_map bytes_of_heard hs in
@@ -32,7 +32,7 @@ heard_back q low at (h ∷ hs) a o =
     let step = read_more (heard_format q) low at (bytes_of_heard h ++ rest) h z.0 z.1 found in
     step ∙ rw (drop_at (bytes_of_heard h) rest (heard_size h) a.0.0, heard_back q (place_of h + 1) (at + heard_size h) hs a.1 o.3) refl
 
-pub input_back : (c : Channel) (hs : List Heard) (bs : List ℕ) → bs ≡ bytes_of_channel c.q c.d c.k ++ flat_map bytes_of_heard hs → All ReadBack hs → InOrder c.q 0 hs →
+pub input_back : (c : Channel) (hs : List Heard) (bs : List ℕ) → bs ≡ bytes_of_channel c.q c.d c.k ++ flat_map bytes_of_heard hs → AllByRecursion ReadBack hs → InOrder c.q 0 hs →
     read_input (λ c. heard_format c.q) bs ≡ record { channel = Some (settings c); reading = record { given = hs; ending = finished } }
 input_back c hs bs e a o = rw (e, channel_back c (bytes_of_channel c.q c.d c.k) refl (flat_map bytes_of_heard hs), heard_back c.q 0 4 hs a o) refl
 

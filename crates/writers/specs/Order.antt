@@ -1,7 +1,7 @@
 -- Records that are read back as they were written.
 -- InOrder, ReadBack, MessagesBack. Assumes nothing.
 use Rattle.std.specs.Prelude.{◌≡◌, ℕ, ◌+◌, ◌<◌, ◌≤◌, true, List, [], ◌∷◌, ◌++◌, length}
-use Rattle.std.specs.List.{flat_map, AllByRecursion as All}
+use Rattle.std.specs.List.{flat_map, AllByRecursion}
 use Rattle.records.specs.declared.found.Found.TheVariants.{Whole}
 use Rattle.records.specs.declared.heard.Heard.{Heard}
 use Rattle.records.specs.Hearing.{bytes_of_heard, heard_size, place_of, whole_in}
@@ -21,4 +21,4 @@ ReadBack h = (length (bytes_of_heard h) ≡ heard_size h) × ((more : List ℕ) 
 
 -- messages of s numbers, each below 2^30, written one after the other, are read as they were, to the end
 abbrev pub MessagesBack : Type 0
-MessagesBack = (s at : ℕ) (ms : List (List ℕ)) → All (λ (m : List ℕ). (length m ≡ s) × (are_small m ≡ true)) ms → read_from (message_format s) 0 at 0 (flat_map bytes_of_message ms) ≡ record { given = ms; ending = finished }
+MessagesBack = (s at : ℕ) (ms : List (List ℕ)) → AllByRecursion (λ (m : List ℕ). (length m ≡ s) × (are_small m ≡ true)) ms → read_from (message_format s) 0 at 0 (flat_map bytes_of_message ms) ≡ record { given = ms; ending = finished }

@@ -6,7 +6,7 @@ ghost use Rattle.reading.specs.Formats.{heard_format};
 ghost use Rattle.reading.specs.Reading.{finished};
 ghost use Rattle.records.specs.Channels.{bytes_of_channel};
 ghost use Rattle.records.specs.Hearing.{bytes_of_heard};
-ghost use Rattle.std.specs.List.{flat_map, AllByRecursion as All};
+ghost use Rattle.std.specs.List.{flat_map, AllByRecursion};
 ghost use Rattle.std.specs.Prelude.{◌≡◌, ◌++◌, IfOk, Some, MatchResult, OnOk};
 ghost use Rattle.writers.specs.Order.{InOrder, ReadBack};
 ghost use Rattle.writers.specs.Written.{Begun, Put};
@@ -37,7 +37,7 @@ pub fn write_heard(out: &mut Vec<u8>, heard: Heard) -> Result<(), Fault>
 // Writes all that was heard; where memory fails, some of it.
 fn write_all(out: &mut Vec<u8>, records: &[Heard]) -> Result<(), Fault>
     ensures bytes { Begun result out.old.items (flat_map bytes_of_heard records.now) out.new.items }
-    ensures back { OnOk result (All ReadBack records.now) }
+    ensures back { OnOk result (AllByRecursion ReadBack records.now) }
 {
     for heard in records {
         if let Err(fault) = write_heard(out, *heard) {

@@ -2,11 +2,11 @@
 // What is written is read back, whole.
 #![tactic(auto)]
 
-pub mod answers;
 pub mod heard;
 pub mod messages;
 mod put;
+pub mod told;
 
-pub use answers::{write_read, write_told};
 pub use heard::{heard_input_bytes, write_channel, write_heard};
 pub use messages::write_message;
+pub use told::{write_read, write_told};

@@ -1,6 +1,6 @@
 use Rattle.std.proofs.Common.{arith, rules}
 use Rattle.aired.proofs.Recording.{part_lt, there_at, records_none, records_more}
-use Rattle.aired.proofs.records.recorded.Goals as goal
+use Rattle.aired.proofs.recorded.recorded.Goals as goal
 
 pub loop-i-init : goal.loop-i-init
 loop-i-init c = search (rules, records_none)

@@ -1,6 +1,6 @@
 use Rattle.std.proofs.Common.{vec_items, ◌∙◌}
 use Rattle.writers.proofs.Putting.{whole_or}
-use Rattle.writers.proofs.answers.write_read.Goals as goal
+use Rattle.writers.proofs.told.write_read.Goals as goal
 
 pub returns : goal.returns
 returns c =

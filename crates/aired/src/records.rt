@@ -1,30 +1,22 @@
 // The records of a frame: one for each slot that isn't silent, in the order of parts and slots.
-ghost use Prim.Native.Nat.{_*_, _^_};
-ghost use Rattle·aired·specs.Aired.{recordWith, recordsOf, whatIf};
-ghost use Rattle·channels.specs.Settings.{settings};
-ghost use Rattle·faults.specs.declared.fault.Fault.the-variants.{Memory as FaultMemory};
-ghost use Rattle·frames.specs.Slots.{isThere, thereIn};
-ghost use Rattle·std.specs.Of.Vec.{vec-items};
-ghost use Rattle·std.specs.Results.{Cases};
-ghost use Rattle·std.specs.Vec.{listOf};
-ghost use lib.ListN.{length};
-ghost use mathlib.Core.Bool.{true};
-ghost use mathlib.Core.List.{_++_};
-ghost use mathlib.Core.Path.{_≡_};
+ghost use Rattle.std.specs.Prelude.{◌≡◌, ◌*◌, ◌^◌, true, ◌++◌, length, MatchResult};
+ghost use Rattle.aired.specs.Aired.{record_with, records_of, what_if};
+ghost use Rattle.channels.specs.Settings.{settings};
+ghost use Rattle.faults.specs.declared.fault.Fault.TheVariants.{Memory as FaultMemory};
+ghost use Rattle.frames.specs.Slots.{is_there, there_in};
+ghost use Rattle.std.specs.Option.{option_to_list};
+
 use channels::Channel;
 use faults::Fault;
-use faults::fault::FaultFromRefused;
-use frames::Frame;
-use frames::Slot;
-use records::Heard;
-use records::What;
+use frames::{Frame, Slot};
+use records::{Heard, What};
 use std::alloc::Global;
 use words::AirWord;
 
 // What is heard in a slot of a part that isn't silent: a word as it is on the air, or noise.
 fn what_of(channel: Channel, frame: u32, part: u8, slot: Slot) -> Option<What>
-    requires { ⌜ isThere (channel .q ^ channel .d) slot ≡ true ⌝ }
-    ensures { λ r. ⌜ r ≡ whatIf frame part slot ⌝ }
+    requires { is_there (channel.q ^ channel.d) slot ≡ true }
+    ensures { result ≡ what_if frame part slot }
 {
     match slot {
         Slot::Silence => None,
@@ -46,7 +38,7 @@ fn push(
     slot: u8,
     what: Option<What>,
 ) -> Result<(), Fault>
-    ensures { λ r. ⌜ Cases r (λ _. vec-items (now (records .exit)) ≡ vec-items (now (records .entry)) ++ recordWith frame part slot what) (λ e. e ≡ FaultMemory) ⌝ }
+    ensures { MatchResult result (λ _. records.new.items ≡ records.old.items ++ record_with frame part slot what) (λ e. e ≡ FaultMemory) }
 {
     if let Some(what) = what {
         records.push(Heard {
@@ -61,9 +53,9 @@ fn push(
 
 // The records of these slots, of which each part has q.
 fn recorded(heap: Global, channel: Channel, frame: u32, slots: &[Slot]) -> Result<Vec<Heard>, Fault>
-    requires whole { ⌜ length (now slots) ≡ channel .q * channel .q ⌝ }
-    requires there { ⌜ thereIn (channel .q ^ channel .d) (now slots) ≡ true ⌝ }
-    ensures { λ r. ⌜ Cases r (λ v. vec-items v ≡ recordsOf (settings channel) frame (now (slots .entry))) (λ e. e ≡ FaultMemory) ⌝ }
+    requires whole { length slots.now ≡ channel.q * channel.q }
+    requires there { there_in (channel.q ^ channel.d) slots.now ≡ true }
+    ensures { MatchResult result (λ v. v.items ≡ records_of (settings channel) frame slots.now) (λ e. e ≡ FaultMemory) }
 {
     let q = usize::from(channel.parts());
     let mut records = Vec::new(heap);
@@ -78,7 +70,7 @@ fn recorded(heap: Global, channel: Channel, frame: u32, slots: &[Slot]) -> Resul
 
 // The records of what is heard in a frame with this number; `Fault::Memory` where there is no memory for them.
 pub fn records_of(heap: Global, frame: &Frame, number: u32) -> Result<Vec<Heard>, Fault>
-    ensures { λ r. ⌜ Cases r (λ v. vec-items v ≡ recordsOf (settings (now (frame .entry) .channel)) number (vec-items (now (frame .entry) .slots))) (λ e. e ≡ FaultMemory) ⌝ }
+    ensures { MatchResult result (λ v. v.items ≡ records_of (settings frame.now.channel) number frame.now.slots.items) (λ e. e ≡ FaultMemory) }
 {
     recorded(heap, frame.channel(), number, frame.slots())
 }

@@ -1,10 +1,9 @@
 // A frame on its way through bytes: written as an input of what was heard, the channel first, and read back from it.
-ghost use Rattle·aired·specs.Aired.{Returned, bytesOf};
-ghost use Rattle·channels.specs.Settings.{settings};
-ghost use Rattle·faults.specs.declared.fault.Fault.the-variants.{Memory as FaultMemory};
-ghost use Rattle·std.specs.Of.Vec.{vec-items};
-ghost use Rattle·std.specs.Results.{Cases};
-ghost use mathlib.Core.Path.{_≡_};
+ghost use Rattle.aired.specs.Aired.{Returned, bytes_of};
+ghost use Rattle.channels.specs.Settings.{settings};
+ghost use Rattle.faults.specs.declared.fault.Fault.TheVariants.{Memory as FaultMemory};
+ghost use Rattle.std.specs.Prelude.{◌≡◌, IfOk, MatchResult};
+
 use crate::back::frame_of;
 use crate::records::records_of;
 use faults::Fault;
@@ -23,8 +22,8 @@ pub struct Aired {
 // Writes what is heard in a frame with this number, the channel first, and reads it back; `Fault::Memory` where memory fails.
 // What is heard when some senders speak comes back as it was.
 pub fn through_bytes(heap: Global, frame: &Frame, number: u32) -> Result<Aired, Fault>
-    ensures bytes { λ r. ⌜ Cases r (λ a. (vec-items (a .bytes) ≡ bytesOf (settings (now (frame .entry) .channel)) number (vec-items (now (frame .entry) .slots))) × (settings (a .frame .channel) ≡ settings (now (frame .entry) .channel))) (λ e. e ≡ FaultMemory) ⌝ }
-    ensures back { λ r. ⌜ Cases r (λ a. Returned (settings (now (frame .entry) .channel)) (vec-items (now (frame .entry) .slots)) (vec-items (a .frame .slots))) (λ _. Unit {0}) ⌝ }
+    ensures bytes { MatchResult result (λ a. (a.bytes.items ≡ bytes_of (settings frame.now.channel) number frame.now.slots.items) × (settings a.frame.channel ≡ settings frame.now.channel)) (λ e. e ≡ FaultMemory) }
+    ensures back { IfOk result (λ a. Returned (settings frame.now.channel) frame.now.slots.items a.frame.slots.items) }
 {
     let records = records_of(heap, frame, number)?;
     let bytes = heard_input_bytes(heap, frame.channel(), &records)?;

@@ -1,28 +1,24 @@
 -- The record of a message that was read.
--- readSize, bytesOfRead, readIn. Assumes nothing.
-use mathlib.Core.Bool.{cond}
-use mathlib.Core.List.{List, [], _∷_, _++_}
-use Prim.Native.Nat.{ℕ, _+_, _*_}
-use lib.Dec.{ltb}
-use lib.ListN.{length, getD}
-use Rattle·records.specs.Kinds.{ofKind}
-use Rattle·records.specs.declared.found.Found.{Found}
-use Rattle·records.specs.declared.found.Found.the-variants.{Whole, Short}
-use Rattle·answers·specs.declared.read.Read.{Read}
-use Rattle·records.specs.Numbers.{fourBytes, threeBytes, fourAt, threeAt}
+-- read_size, bytes_of_read, read_in. Assumes nothing.
+use Rattle.std.specs.Prelude.{ℕ, ◌+◌, ◌*◌, cond, List, [], ◌∷◌, ◌++◌, length, nat_lt, slice_index}
+use Rattle.records.specs.Kinds.{of_kind}
+use Rattle.records.specs.declared.found.Found.{Found}
+use Rattle.records.specs.declared.found.Found.TheVariants.{Whole, Short}
+use Rattle.answers.specs.declared.read.Read.{Read}
+use Rattle.records.specs.Numbers.{four_bytes, three_bytes, four_at, three_at}
 
 -- how many bytes the record has, with its numbers
-abbrev pub readSize : Read → ℕ
-readSize r = 11 + 4 * r .count
+abbrev pub read_size : Read → ℕ
+read_size r = 11 + 4 * r.count
 
 -- the bytes before the numbers: the byte 4, the frame, the sender, the words heard, those off, and how many numbers follow
-abbrev pub bytesOfRead : Read → List ℕ
-bytesOfRead r = 4 ∷ (fourBytes (r .frame) ++ (threeBytes (r .sender) ++ (r .words ∷ r .off ∷ r .count ∷ [])))
+abbrev pub bytes_of_read : Read → List ℕ
+bytes_of_read r = 4 ∷ (four_bytes r.frame ++ (three_bytes r.sender ++ (r.words ∷ r.off ∷ r.count ∷ [])))
 
 -- the first eleven bytes as a record
-abbrev pub readHead : List ℕ → Read
-readHead bs = record { frame = fourAt 1 bs; sender = threeAt 5 bs; words = getD bs 8 0; off = getD bs 9 0; count = getD bs 10 0 }
+abbrev pub read_head : List ℕ → Read
+read_head bs = record { frame = four_at 1 bs; sender = three_at 5 bs; words = slice_index bs 8; off = slice_index bs 9; count = slice_index bs 10 }
 
 -- what the record says that stands first in some bytes, with all its numbers
-abbrev pub readIn : List ℕ → Found Read
-readIn bs = ofKind 4 11 bs (cond (ltb (length bs) (11 + 4 * getD bs 10 0)) Short (Whole (readHead bs)))
+abbrev pub read_in : List ℕ → Found Read
+read_in bs = of_kind 4 11 bs (cond (nat_lt (length bs) (11 + 4 * slice_index bs 10)) Short (Whole (read_head bs)))

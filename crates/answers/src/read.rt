@@ -1,13 +1,10 @@
 // A message that was read: the byte 4, the frame (4), the sender (3), how many of its words were heard (1), how many of these
 // are off (1), how many numbers the message has (1), and the numbers (4 each).
-ghost use Prim.Native.Nat.{ℕ, _*_, _+_, _<_, _^_, _≤_};
-ghost use Rattle·faults.specs.declared.fault.Fault.the-variants.{Sender as FaultSender};
-ghost use Rattle·answers·specs.Readings.{bytesOfRead, readIn, readSize};
-ghost use Rattle·records.specs.declared.found.Found.the-variants.{Whole};
-ghost use Rattle·std.specs.Results.{Cases};
-ghost use lib.ListN.{length};
-ghost use mathlib.Core.List.{List, _++_};
-ghost use mathlib.Core.Path.{_≡_};
+ghost use Rattle.std.specs.Prelude.{◌≡◌, ℕ, ◌+◌, ◌*◌, ◌^◌, ◌<◌, ◌≤◌, List, ◌++◌, length, IfOk, MatchResult};
+ghost use Rattle.faults.specs.declared.fault.Fault.TheVariants.{Sender as FaultSender};
+ghost use Rattle.answers.specs.Readings.{bytes_of_read, read_in, read_size};
+ghost use Rattle.records.specs.declared.found.Found.TheVariants.{Whole};
+
 use faults::Fault;
 use records::Found;
 
@@ -32,14 +29,14 @@ pub struct Read {
 impl Read {
     // How many bytes the record has, with its numbers.
     pub fn size(self) -> usize
-        ensures { λ r. ⌜ r ≡ readSize self ⌝ }
+        ensures { result ≡ read_size self }
     {
         11 + 4 * usize::from(self.count)
     }
 
     // The eleven bytes, in their order.
     fn laid_out(self) -> [u8; 11]
-        ensures { λ r. ⌜ r ≡ bytesOfRead self ⌝ }
+        ensures { result ≡ bytes_of_read self }
     {
         let [a, b, c, d] = self.frame.to_be_bytes();
         let [_, e, f, g] = self.sender.to_be_bytes();
@@ -49,8 +46,8 @@ impl Read {
     // The eleven bytes that stand before the numbers, or `Fault::Sender` for a sender of 2^24 or above.
     // With as many numbers after them as they say, the record is read back, whatever follows.
     pub fn to_bytes(self) -> Result<[u8; 11], Fault>
-        ensures bytes { λ r. ⌜ Cases r (λ bs. (self .sender < 2 ^ 24) × (bs ≡ bytesOfRead self)) (λ e. (e ≡ FaultSender) × (2 ^ 24 ≤ self .sender)) ⌝ }
-        ensures back { λ r. ⌜ Cases r (λ bs. (more : List ℕ) → 4 * self .count ≤ length more → readIn (bs ++ more) ≡ Whole self) (λ _. Unit {0}) ⌝ }
+        ensures bytes { MatchResult result (λ bs. (self.sender < 2 ^ 24) × (bs ≡ bytes_of_read self)) (λ e. (e ≡ FaultSender) × (2 ^ 24 ≤ self.sender)) }
+        ensures back { IfOk result (λ bs. (more : List ℕ) → 4 * self.count ≤ length more → read_in (bs ++ more) ≡ Whole self) }
     {
         if self.sender >= SENDERS {
             return Err(Fault::Sender);
@@ -60,7 +57,7 @@ impl Read {
 
     // What the record says that stands first in these bytes, with all its numbers: `Fault::Kind` for another kind.
     pub fn first(bytes: &[u8]) -> Found<Read>
-        ensures { λ r. ⌜ r ≡ readIn (now (bytes .entry)) ⌝ }
+        ensures { result ≡ read_in bytes.now }
     {
         let Some(kind) = bytes.first() else {
             return Found::Short;

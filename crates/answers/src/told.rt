@@ -1,12 +1,10 @@
 // What is told of a frame in place of a message: the byte 5, the frame (4), the sender (3), the fault's number (1), and how many
 // words were heard of the sender (1). Where too many senders were heard, the sender and the count are 0.
-ghost use Prim.Native.Nat.{ℕ, _<_, _^_, _≤_};
-ghost use Rattle·faults.specs.declared.fault.Fault.the-variants.{Sender as FaultSender};
-ghost use Rattle·answers·specs.Telling.{bytesOfTold, senderOf, tellingBytes, toldAs, toldIn};
-ghost use Rattle·records.specs.declared.found.Found.the-variants.{Whole};
-ghost use Rattle·std.specs.Results.{Cases};
-ghost use mathlib.Core.List.{List, _++_};
-ghost use mathlib.Core.Path.{_≡_};
+ghost use Rattle.std.specs.Prelude.{◌≡◌, ℕ, ◌^◌, ◌<◌, ◌≤◌, List, ◌++◌, IfOk, MatchResult};
+ghost use Rattle.faults.specs.declared.fault.Fault.TheVariants.{Sender as FaultSender};
+ghost use Rattle.answers.specs.Telling.{bytes_of_told, sender_of, telling_bytes, told_as, told_in};
+ghost use Rattle.records.specs.declared.found.Found.TheVariants.{Whole};
+
 use crate::read::SENDERS;
 use faults::Fault;
 use records::Found;
@@ -33,7 +31,7 @@ pub struct Told {
 
 // The ten bytes of what is told.
 fn laid_out(frame: u32, sender: u32, number: u8, count: u8) -> [u8; 10]
-    ensures { λ r. ⌜ r ≡ tellingBytes frame sender number count ⌝ }
+    ensures { result ≡ telling_bytes frame sender number count }
 {
     let [a, b, c, d] = frame.to_be_bytes();
     let [_, e, f, g] = sender.to_be_bytes();
@@ -43,7 +41,7 @@ fn laid_out(frame: u32, sender: u32, number: u8, count: u8) -> [u8; 10]
 impl Told {
     // The sender that is told of; 0 where too many were heard.
     fn sender(self) -> u32
-        ensures { λ r. ⌜ r ≡ senderOf (self .telling) ⌝ }
+        ensures { result ≡ sender_of self.telling }
     {
         match self.telling {
             Telling::TooFew { sender, .. } => sender,
@@ -54,7 +52,7 @@ impl Told {
 
     // The ten bytes, in their order.
     fn bytes(self) -> [u8; 10]
-        ensures { λ r. ⌜ r ≡ bytesOfTold self ⌝ }
+        ensures { result ≡ bytes_of_told self }
     {
         match self.telling {
             Telling::TooFew { sender, count } => laid_out(self.frame, sender, 6, count),
@@ -65,8 +63,8 @@ impl Told {
 
     // The ten bytes of the record, or `Fault::Sender` for a sender of 2^24 or above. Whatever follows them, the record is read back.
     pub fn to_bytes(self) -> Result<[u8; 10], Fault>
-        ensures bytes { λ r. ⌜ Cases r (λ bs. (senderOf (self .telling) < 2 ^ 24) × (bs ≡ bytesOfTold self)) (λ e. (e ≡ FaultSender) × (2 ^ 24 ≤ senderOf (self .telling))) ⌝ }
-        ensures back { λ r. ⌜ Cases r (λ bs. (more : List ℕ) → toldIn (bs ++ more) ≡ Whole self) (λ _. Unit {0}) ⌝ }
+        ensures bytes { MatchResult result (λ bs. (sender_of self.telling < 2 ^ 24) × (bs ≡ bytes_of_told self)) (λ e. (e ≡ FaultSender) × (2 ^ 24 ≤ sender_of self.telling)) }
+        ensures back { IfOk result (λ bs. (more : List ℕ) → told_in (bs ++ more) ≡ Whole self) }
     {
         if self.sender() >= SENDERS {
             return Err(Fault::Sender);
@@ -77,7 +75,7 @@ impl Told {
     // What is told first in these bytes: `Fault::Kind` for another kind, for a number that is not 6, 7 or 8, and for 8 with a
     // sender or a count.
     pub fn first(bytes: &[u8]) -> Found<Told>
-        ensures { λ r. ⌜ r ≡ toldIn (now (bytes .entry)) ⌝ }
+        ensures { result ≡ told_in bytes.now }
     {
         let Some(kind) = bytes.first() else {
             return Found::Short;
@@ -96,7 +94,7 @@ impl Told {
 
 // What a number tells of a frame and a sender.
 fn told_as(frame: u32, sender: u32, number: u8, count: u8) -> Found<Told>
-    ensures { λ r. ⌜ r ≡ toldAs frame sender number count ⌝ }
+    ensures { result ≡ told_as frame sender number count }
 {
     let telling = match number {
         6 => Telling::TooFew { sender, count },

@@ -1,4 +1,6 @@
 // Examples of digests and of words on the air, as tests.
+#![tactic(auto)]
+
 #[cfg(test)]
 mod digests;
 #[cfg(test)]

@@ -1,20 +1,15 @@
 -- The worked cases as rows of one table, and what it is for a row to hold, by the definitions that the contracts of the code cite.
--- Row, meeting, said, inParts, Holds, channel, five, three, table, Cases. Assumes nothing.
-use mathlib.Core.Path.{_≡_}
-use mathlib.Core.Bool.{cond}
-use mathlib.Core.List.{List, [], _∷_, _++_, map}
-use Prim.Native.Nat.{ℕ, zero, suc, _+_, _^_}
-use lib.Dec.{eqb}
-use lib.ListN.{length}
-use Rattle·std.specs.shelf.Lists.{All}
-use Rattle·frames.specs.Slots.{speaker}
-use Rattle·planning.specs.Wishes.{Best, slots}
-use Rattle·planning.specs.declared.wish.Wish.{Wish}
-use Rattle·readings.specs.Reads.{Made}
-use Rattle·speakall.specs.Code.{Read}
-use Rattle·speakall.specs.Frame.{Noise, Speaker, Word, got, heard, wordAt}
-use Rattle·speakall.specs.Plan.{Channel, planOf, size, slotAt}
-use Rattle·speakall.specs.Promise.{tableOf}
+-- Row, meeting, said, in_parts, Holds, channel, five, three, table, Cases. Assumes nothing.
+use Rattle.std.specs.Prelude.{◌≡◌, ℕ, zero, suc, ◌+◌, ◌^◌, cond, List, [], ◌∷◌, ◌++◌, map, length, ◌==◌}
+use Rattle.std.specs.List.{AllByRecursion as All}
+use Rattle.frames.specs.Slots.{speaker}
+use Rattle.planning.specs.Wishes.{Best, slots}
+use Rattle.planning.specs.declared.wish.Wish.{Wish}
+use Rattle.readings.specs.Reads.{Made}
+use Rattle.speakall.specs.Code.{Read}
+use Rattle.speakall.specs.Frame.{Noise, Speaker, Word, got, heard, word_at}
+use Rattle.speakall.specs.Plan.{Channel, plan_of, size, slot_at}
+use Rattle.speakall.specs.Promise.{table_of}
 
 pub data Row : Type 0 where
   -- the slots of a sender, part by part
@@ -39,27 +34,27 @@ pub data Row : Type 0 where
 -- the parts below n in which two have one slot
 unfoldable pub meeting : (f g : ℕ → ℕ) → ℕ → List ℕ
 meeting f g zero = []
-meeting f g (suc n) = meeting f g n ++ cond (eqb (f n) (g n)) (n ∷ []) []
+meeting f g (suc n) = meeting f g n ++ cond (f n == g n) (n ∷ []) []
 
 -- the words of a message in the parts below n
 unfoldable pub said : List ℕ → ℕ → List ℕ
 said m zero = []
-said m (suc n) = said m n ++ (wordAt m n ∷ [])
+said m (suc n) = said m n ++ (word_at m n ∷ [])
 
 -- words in the parts from x on
-unfoldable pub inParts : (x : ℕ) → List ℕ → List Word
-inParts x [] = []
-inParts x (v ∷ vs) = record { part = x; word = v } ∷ inParts (x + 1) vs
+unfoldable pub in_parts : (x : ℕ) → List ℕ → List Word
+in_parts x [] = []
+in_parts x (v ∷ vs) = record { part = x; word = v } ∷ in_parts (x + 1) vs
 
 abbrev pub Holds : Row → Type 0
-Holds (Slots c n found) = tableOf (c .q) (planOf c n) (c .q) ≡ found
-Holds (Meet c n m parts) = meeting (slotAt (c .q) (planOf c n)) (slotAt (c .q) (planOf c m)) (c .q) ≡ parts
-Holds (Sizes c numbers senders) = (size c ≡ numbers) × ((c .q) ^ (c .d) ≡ senders)
+Holds (Slots c n found) = table_of c.q (plan_of c n) c.q ≡ found
+Holds (Meet c n m parts) = meeting (slot_at c.q (plan_of c n)) (slot_at c.q (plan_of c m)) c.q ≡ parts
+Holds (Sizes c numbers senders) = (size c ≡ numbers) × (c.q ^ c.d ≡ senders)
 Holds (Words m found) = said m 5 ≡ found
-Holds (Noisy c ss x y) = heard (c .q) ss x y ≡ Noise
-Holds (Alone c ss n parts) = map (λ (w : Word). w .part) (got c ss (planOf c n)) ≡ parts
-Holds (Heard c ss n m count) = Made (c .q) (size c) (got c ss (planOf c n)) (Read.Reads m count 0)
-Holds (Damaged c words m off) = Made (c .q) (size c) (inParts 0 words) (Read.Reads m (length words) off)
+Holds (Noisy c ss x y) = heard c.q ss x y ≡ Noise
+Holds (Alone c ss n parts) = map (λ (w : Word). w.part) (got c ss (plan_of c n)) ≡ parts
+Holds (Heard c ss n m count) = Made c.q (size c) (got c ss (plan_of c n)) (Read.Reads m count 0)
+Holds (Damaged c words m off) = Made c.q (size c) (in_parts 0 words) (Read.Reads m (length words) off)
 Holds (Planned w c numbers found) = Best w c × (size c ≡ numbers) × (slots c ≡ found)
 
 abbrev pub channel : (q d k : ℕ) → Channel

@@ -1,7 +1,9 @@
 // The worked cases: rows of one table, over the definitions that the contracts of the code cite.
-ghost use Rattle·cases·specs.Rows.{Cases};
+#![tactic(auto)]
+
+ghost use Rattle.cases.specs.Rows.{Cases};
 
 // Every row of the table holds.
 pub fn worked_cases()
-    ensures { λ _. ⌜ Cases ⌝ }
+    ensures { Cases }
 {}

@@ -1,14 +1,8 @@
 // The smallest and the largest of everything, exactly as many as there are and one more, and ties.
 use channels::Channel;
-use channels::channel::ChannelDebug;
-use channels::channel::ChannelPartialEq;
 use faults::Fault;
-use faults::fault::FaultDebug;
-use faults::fault::FaultPartialEq;
-use planning::Wish;
-use planning::all;
-use planning::best;
-use std::test::*;
+use planning::{Wish, all, best};
+use std::test::Fail;
 
 fn wish(senders: u64, others: u64, numbers: u64) -> Wish {
     Wish {
@@ -19,15 +13,16 @@ fn wish(senders: u64, others: u64, numbers: u64) -> Wish {
 }
 
 #[test]
-fn sizes_of_the_best() -> Result<(), Fail> {
+fn sizes_of_the_best(rt: HostRuntime) -> Result<(), Fail> {
     let channel = best(wish(9000, 9, 10))?;
-    check_eq(channel.slots(), 841)?;
-    check_eq(channel.senders(), 24389)?;
-    check_eq(channel.numbers(), 11)
+    assert_eq!(rt; channel.slots(), 841);
+    assert_eq!(rt; channel.senders(), 24389);
+    assert_eq!(rt; channel.numbers(), 11);
+    Ok(())
 }
 
 #[test]
-fn the_best() -> Result<(), Fail> {
+fn the_best(rt: HostRuntime) -> Result<(), Fail> {
     // What is asked, and q, d and k of the best.
     let table: [(Wish, u8, u8, u8); 14] = [
         (wish(9000, 9, 10), 29, 3, 9),
@@ -46,13 +41,13 @@ fn the_best() -> Result<(), Fail> {
         (wish(251, 255, 251), 251, 1, 255),
     ];
     for (asked, q, d, k) in table {
-        check_eq(best(asked)?, Channel::new(q, d, k)?)?;
+        assert_eq!(rt; best(asked)?, Channel::new(q, d, k)?);
     }
     Ok(())
 }
 
 #[test]
-fn none_serves(rt: LibcRuntime) -> Result<(), Fail> {
+fn none_serves(rt: HostRuntime) -> Result<(), Fail> {
     let table = [
         wish(63002, 0, 0),
         wish(63001, 0, 252),
@@ -64,16 +59,16 @@ fn none_serves(rt: LibcRuntime) -> Result<(), Fail> {
         wish(0, 0, u64::MAX),
     ];
     for asked in table {
-        check_eq(best(asked), Err(Fault::NoChannel))?;
-        check(all(rt.alloc(), asked)?.is_empty())?;
+        assert_eq!(rt; best(asked), Err(Fault::NoChannel));
+        assert!(rt; all(rt.alloc(), asked)?.is_empty());
     }
     Ok(())
 }
 
 #[test]
-fn all_that_serve(rt: LibcRuntime) -> Result<(), Fail> {
-    check_eq(all(rt.alloc(), wish(0, 0, 0))?.len(), 121)?;
-    check_eq(all(rt.alloc(), wish(9000, 9, 10))?.len(), 33)?;
+fn all_that_serve(rt: HostRuntime) -> Result<(), Fail> {
+    assert_eq!(rt; all(rt.alloc(), wish(0, 0, 0))?.len(), 121);
+    assert_eq!(rt; all(rt.alloc(), wish(9000, 9, 10))?.len(), 33);
     let found = all(rt.alloc(), wish(50653, 0, 37))?;
     let table: [(u8, u8); 7] = [
         (37, 3),
@@ -84,9 +79,9 @@ fn all_that_serve(rt: LibcRuntime) -> Result<(), Fail> {
         (241, 2),
         (251, 2),
     ];
-    check_eq(found.len(), 7)?;
+    assert_eq!(rt; found.len(), 7);
     for (channel, (q, d)) in found.iter().zip(table) {
-        check_eq(*channel, Channel::new(q, d, 0)?)?;
+        assert_eq!(rt; *channel, Channel::new(q, d, 0)?);
     }
     Ok(())
 }

@@ -1,4 +1,6 @@
 // Examples of faults, sides, channels, plans and planning, as tests.
+#![tactic(auto)]
+
 #[cfg(test)]
 mod best;
 #[cfg(test)]

@@ -1,10 +1,8 @@
 // The list at its borders, and inverses at the ends of the first and the last row.
-use sides::inverse;
-use sides::is_side;
-use std::test::*;
+use sides::{inverse, is_side};
 
 #[test]
-fn sides_are_listed() -> Result<(), Fail> {
+fn sides_are_listed(rt: HostRuntime) {
     for (q, yes) in [
         (2, false),
         (3, true),
@@ -13,13 +11,12 @@ fn sides_are_listed() -> Result<(), Fail> {
         (251, true),
         (253, false),
     ] {
-        check_eq(is_side(q), yes)?;
+        assert_eq!(rt; is_side(q), yes);
     }
-    Ok(())
 }
 
 #[test]
-fn inverses_are_found() -> Result<(), Fail> {
+fn inverses_are_found(rt: HostRuntime) {
     for (q, a, v) in [
         (3, 2, Some(2)),
         (3, 3, None),
@@ -30,7 +27,6 @@ fn inverses_are_found() -> Result<(), Fail> {
         (251, 250, Some(250)),
         (251, 251, None),
     ] {
-        check_eq(inverse(q, a), v)?;
+        assert_eq!(rt; inverse(q, a), v);
     }
-    Ok(())
 }

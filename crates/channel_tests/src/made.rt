@@ -1,10 +1,7 @@
 // Settings at every border, the worked senders' slots, and the first and last sender of each kind of channel.
-use channels::Channel;
-use channels::Plan;
+use channels::{Channel, Plan};
 use faults::Fault;
-use faults::fault::FaultDebug;
-use faults::fault::FaultPartialEq;
-use std::test::*;
+use std::test::Fail;
 
 // q, d, k, and the sizes of the channel that they make: senders, slots of a frame, numbers of a message.
 const MADE: [(u8, u8, u8, u32, u32, u8); 18] = [
@@ -55,24 +52,24 @@ const REFUSED: [(u8, u8, u8); 22] = [
 ];
 
 #[test]
-fn channels_are_made() -> Result<(), Fail> {
+fn channels_are_made(rt: HostRuntime) -> Result<(), Fail> {
     for (q, d, k, senders, slots, numbers) in MADE {
         let c = Channel::new(q, d, k)?;
-        check_eq((c.parts(), c.digits(), c.others()), (q, d, k))?;
-        check_eq(
+        assert_eq!(rt; (c.parts(), c.digits(), c.others()), (q, d, k));
+        assert_eq!(rt;
             (c.senders(), c.slots(), c.numbers()),
-            (senders, slots, numbers),
-        )?;
+            (senders, slots, numbers)
+        );
     }
     Ok(())
 }
 
 #[test]
-fn channels_are_refused() -> Result<(), Fail> {
+fn channels_are_refused(rt: HostRuntime) -> Result<(), Fail> {
     for (q, d, k) in REFUSED {
         match Channel::new(q, d, k) {
             Ok(_) => return Err(Fail::new("a channel that cannot be")),
-            Err(f) => check_eq(f, Fault::Channel)?,
+            Err(f) => assert_eq!(rt; f, Fault::Channel),
         }
     }
     Ok(())
@@ -80,7 +77,7 @@ fn channels_are_refused() -> Result<(), Fail> {
 
 // On q = 5, d = 2: the sender and its slots.
 #[test]
-fn worked_slots() -> Result<(), Fail> {
+fn worked_slots(rt: HostRuntime) -> Result<(), Fail> {
     let c = Channel::new(5, 2, 2)?;
     for (number, slots) in [
         (7, [2, 3, 4, 0, 1]),
@@ -89,29 +86,29 @@ fn worked_slots() -> Result<(), Fail> {
     ] {
         let plan = Plan::of(c, number)?;
         for (x, slot) in slots.iter().enumerate() {
-            check_eq(plan.slot(u8::try_from(x)?), Some(*slot))?;
+            assert_eq!(rt; plan.slot(u8::try_from(x)?), Some(*slot));
         }
-        check_eq(plan.slot(5), None)?;
-        check_eq(plan.slot(255), None)?;
+        assert_eq!(rt; plan.slot(5), None);
+        assert_eq!(rt; plan.slot(255), None);
     }
     Ok(())
 }
 
 // The first sender is always in slot 0; the last, all of whose digits are q - 1, is in slot q - 1 of part 0 and in slot q - d of part 1.
 #[test]
-fn first_and_last() -> Result<(), Fail> {
+fn first_and_last(rt: HostRuntime) -> Result<(), Fail> {
     for (q, d, k, senders, _, _) in MADE {
         let c = Channel::new(q, d, k)?;
         let first = Plan::of(c, 0)?;
-        check_eq((first.slot(0), first.slot(q - 1)), (Some(0), Some(0)))?;
+        assert_eq!(rt; (first.slot(0), first.slot(q - 1)), (Some(0), Some(0)));
         let last = Plan::of(c, senders.saturating_sub(1))?;
-        check_eq(
+        assert_eq!(rt;
             (last.slot(0), last.slot(1)),
-            (Some(q.saturating_sub(1)), Some(q.saturating_sub(d))),
-        )?;
+            (Some(q.saturating_sub(1)), Some(q.saturating_sub(d)))
+        );
         match Plan::of(c, senders) {
             Ok(_) => return Err(Fail::new("a sender too many")),
-            Err(f) => check_eq(f, Fault::Sender)?,
+            Err(f) => assert_eq!(rt; f, Fault::Sender),
         }
     }
     Ok(())

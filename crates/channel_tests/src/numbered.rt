@@ -1,12 +1,11 @@
 // A fault with a number, and the one without.
 use faults::Fault;
-use std::test::*;
 
 #[test]
-fn faults_have_numbers() -> Result<(), Fail> {
-    check_eq(
+fn faults_have_numbers(rt: HostRuntime) {
+    assert_eq!(rt;
         (Fault::Sender.number(), Fault::Sender.cause()),
-        (Some(3), "no such sender"),
-    )?;
-    check_eq(Fault::Memory.number(), None)
+        (Some(3), "no such sender")
+    );
+    assert_eq!(rt; Fault::Memory.number(), None);
 }

@@ -1,13 +1,12 @@
 -- The code's channel as the statement's.
 -- settings, Made. Assumes nothing.
-use mathlib.Core.Path.{_≡_}
-use Prim.Native.Nat.{ℕ}
-use Rattle·channels·specs.declared.channel.Channel.{Channel}
-use Rattle·channels·specs.Valid.{Valid}
-use Rattle·speakall.specs.Plan as statement
+use Rattle.std.specs.Prelude.{◌≡◌, ℕ}
+use Rattle.channels.specs.declared.channel.Channel.{Channel}
+use Rattle.channels.specs.Valid.{Valid}
+use Rattle.speakall.specs.Plan as statement
 
 abbrev pub settings : Channel → statement.Channel
-settings c = record { q = c .q; d = c .d; k = c .k }
+settings c = record { q = c.q; d = c.d; k = c.k }
 
 -- a channel that was made of q, d and k, which were valid
 pub record Made (c : Channel) (q d k : ℕ) : Type 0 where

@@ -1,10 +1,8 @@
 // A channel: how a frame is cut, how long plans are, and how many others may speak in the same frame.
 // How it is made, and its sizes, stand in `make`, apart from the struct, whose facts they use.
-ghost use Prim.Native.Nat.{_*_, _-_, _<_, _^_, _≤_};
-ghost use Rattle·channels·specs.Valid.{isValid};
-ghost use Rattle·speakall.specs.Plan.{listed, sides};
-ghost use mathlib.Core.Bool.{true};
-ghost use mathlib.Core.Path.{_≡_};
+ghost use Rattle.std.specs.Prelude.{◌≡◌, ◌-◌, ◌*◌, ◌^◌, ◌<◌, ◌≤◌, true};
+ghost use Rattle.channels.specs.Valid.{is_valid};
+ghost use Rattle.speakall.specs.Plan.{listed, sides};
 
 mod make;
 
@@ -17,7 +15,7 @@ pub struct Channel {
     // Others that may speak in the same frame.
     k: u8,
     // All that makes it a channel, whole and in its parts, for the crates above.
-    ghost valid: { isValid q d k ≡ true },
+    ghost valid: { is_valid q d k ≡ true },
     ghost side: { listed q sides ≡ true },
     ghost wide: { 2 < q },
     ghost narrow: { q < 252 },
@@ -31,21 +29,21 @@ pub struct Channel {
 impl Channel {
     // The parts of a frame, and the slots of each part: q.
     pub fn parts(self) -> u8
-        ensures { λ r. ⌜ r ≡ self .q ⌝ }
+        ensures { result ≡ self.q }
     {
         self.q
     }
 
     // The digits of a plan: d.
     pub fn digits(self) -> u8
-        ensures { λ r. ⌜ r ≡ self .d ⌝ }
+        ensures { result ≡ self.d }
     {
         self.d
     }
 
     // How many others may speak in the same frame: k.
     pub fn others(self) -> u8
-        ensures { λ r. ⌜ r ≡ self .k ⌝ }
+        ensures { result ≡ self.k }
     {
         self.k
     }

@@ -1,10 +1,7 @@
 // A sender's plan: in which slot of each part it speaks.
 // Its methods stand in `make`, apart from the struct, whose facts they use.
-ghost use Prim.Native.Nat.{_<_, _≤_};
-ghost use Rattle·speakall.specs.Plan.{below};
-ghost use lib.Dec.{T};
-ghost use lib.ListN.{length, take};
-ghost use mathlib.Core.Path.{_≡_};
+ghost use Rattle.std.specs.Prelude.{◌≡◌, ◌<◌, ◌≤◌, T, length, take};
+ghost use Rattle.speakall.specs.Plan.{below};
 
 mod make;
 

@@ -1,6 +1,6 @@
 -- Two lists, place by place.
 -- Each. Assumes nothing.
-use mathlib.Core.List.{List, [], _∷_}
+use Rattle.std.specs.Prelude.{List, [], ◌∷◌}
 
 -- they are equally long, and the items in each place stand in the relation
 unfoldable pub Each : {X Y : Type 0} → (X → Y → Type 0) → List X → List Y → Type 0

@@ -1,7 +1,8 @@
 // A channel as a line: its numbers, and its sizes, which follow from them.
-ghost use Rattle·channels.specs.Settings.{settings};
-ghost use Rattle·command_words·specs.Lines.{Sizes, lineText};
-ghost use Rattle·std.specs.declared.option.Option.the-variants.{Some};
+ghost use Rattle.channels.specs.Settings.{settings};
+ghost use Rattle.command_words.specs.Lines.{Sizes, line_text};
+ghost use Rattle.std.specs.Prelude.{Some};
+
 use channels::Channel;
 use std::fmt;
 
@@ -18,7 +19,7 @@ pub struct Line {
 
 impl Line {
     pub fn of(channel: Channel) -> Line
-        ensures { λ r. ⌜ Sizes (settings channel) r ⌝ }
+        ensures { Sizes (settings channel) result }
     {
         Line {
             q: channel.parts(),
@@ -31,8 +32,8 @@ impl Line {
     }
 }
 
-pub impl fmt::Display for Line as LineDisplay {
-    ghost shown = { λ l. Some (lineText l) };
+impl fmt::Display for Line {
+    ghost output = { λ l. Some (line_text l) };
 
     fn fmt<W: fmt::Write>(&self, f: &mut fmt::Formatter<W>) -> fmt::Result {
         let Line {

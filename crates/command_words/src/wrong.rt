@@ -1,14 +1,13 @@
 // The words of a command line by their places, and what is told of words that ask for nothing:
 // the word that is wrong, where one is, and what is wrong.
-ghost use Rattle·command_words·specs.Wrong.{Told, WordAt, wordsIn};
-ghost use Rattle·std.specs.Of.String.{string-bytes};
-ghost use Rattle·std.specs.Vec.{made};
-use std::alloc::AllocError;
-use std::alloc::Global;
+ghost use Rattle.command_words.specs.Wrong.{Told, WordAt, words_in};
+ghost use Rattle.std.specs.Prelude.{IfOk, string_bytes};
+
+use std::alloc::{AllocError, Global};
 
 // The word in a place, from 0.
 pub fn word_at(texts: &[String], i: usize) -> Option<&str>
-    ensures { λ r. ⌜ WordAt (wordsIn (now (texts .entry))) i r ⌝ }
+    ensures { WordAt (words_in texts.now) i result }
 {
     match texts.get(i) {
         Some(text) => Some(text.as_str()),
@@ -24,13 +23,13 @@ pub fn told(
     place: Option<usize>,
     cause: &str,
 ) -> Result<String, AllocError>
-    ensures { λ r. ⌜ made r (λ s. Told (now (program .entry)) (wordsIn (now (texts .entry))) place (now (cause .entry)) (string-bytes s)) ⌝ }
+    ensures { IfOk result (λ s. Told program.now (words_in texts.now) place cause.now (string_bytes s)) }
 {
     let Some(i) = place else {
-        return format!(heap, "{program}: {cause}");
+        return format!(in heap; "{program}: {cause}");
     };
     match word_at(texts, i) {
-        Some(word) => format!(heap, "{program}: {word}: {cause}"),
-        None => format!(heap, "{program}: {cause}"),
+        Some(word) => format!(in heap; "{program}: {word}: {cause}"),
+        None => format!(in heap; "{program}: {cause}"),
     }
 }

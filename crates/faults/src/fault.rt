@@ -1,10 +1,9 @@
 // The causes for which something is refused or not read, each with its number and its text.
-ghost use Rattle·faults·specs.Faults.{causeOf, faultNumber, faultText};
-ghost use Rattle·faults·specs.declared.fault.Fault.the-variants.{Memory};
-ghost use Rattle·std.specs.declared.option.Option.the-variants.{Some};
-ghost use mathlib.Core.Path.{_≡_};
-use std::alloc::AllocError;
-use std::alloc::Refused;
+ghost use Rattle.faults.specs.Faults.{cause_of, fault_number, fault_text};
+ghost use Rattle.faults.specs.declared.fault.Fault.TheVariants.{Memory};
+ghost use Rattle.std.specs.Prelude.{◌≡◌, Some};
+
+use std::alloc::{AllocError, AllocFailed};
 use std::fmt;
 
 #[derive(Clone, Copy, PartialEq, Eq, Debug)]
@@ -34,7 +33,7 @@ pub enum Fault {
 impl Fault {
     // The fault's number, 1 to 9; want of memory has none.
     pub fn number(self) -> Option<u8>
-        ensures { λ r. ⌜ r ≡ faultNumber self ⌝ }
+        ensures { result ≡ fault_number self }
     {
         match self {
             Fault::Kind => Some(1),
@@ -52,7 +51,7 @@ impl Fault {
 
     // What is wrong, in words.
     pub fn cause(self) -> &'static str
-        ensures { λ r. ⌜ now r ≡ causeOf self ⌝ }
+        ensures { result.now ≡ cause_of self }
     {
         match self {
             Fault::Kind => "unknown kind or bad length",
@@ -71,8 +70,8 @@ impl Fault {
 }
 
 // `fault 3: no such sender`, and `out of memory` alone.
-pub impl fmt::Display for Fault as FaultDisplay {
-    ghost shown = { λ f. Some (faultText f) };
+impl fmt::Display for Fault {
+    ghost output = { λ f. Some (fault_text f) };
 
     fn fmt<W: fmt::Write>(&self, f: &mut fmt::Formatter<W>) -> fmt::Result {
         let cause = self.cause();
@@ -83,18 +82,18 @@ pub impl fmt::Display for Fault as FaultDisplay {
     }
 }
 
-pub impl From<AllocError> for Fault as FaultFromAlloc {
-    ghost converts = { λ _ r. r ≡ Memory };
+impl From<AllocError> for Fault {
+    ghost from_gives = { λ _ r. r ≡ Memory };
 
     fn from(_e: AllocError) -> Fault {
         Fault::Memory
     }
 }
 
-pub impl<T: Drop> From<Refused<T>> for Fault as FaultFromRefused {
-    ghost converts = { λ _ r. r ≡ Memory };
+impl<T: Drop> From<AllocFailed<T>> for Fault {
+    ghost from_gives = { λ _ r. r ≡ Memory };
 
-    fn from(_e: Refused<T>) -> Fault {
+    fn from(_e: AllocFailed<T>) -> Fault {
         Fault::Memory
     }
 }

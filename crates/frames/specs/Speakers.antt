@@ -1,26 +1,23 @@
 -- The speakers of a frame, as the statement has them, and the first of them that cannot speak.
--- speakersIn, refusalIn. Assumes nothing.
-use mathlib.Core.List.{List, [], _∷_, map}
-use Rattle·faults.specs.declared.fault.Fault.{Fault}
-use Rattle·frames·specs.declared.speaker.Speaker.{Speaker}
-use Rattle·frames·specs.Slots.{refusal, speaker}
-use Rattle·speakall.specs.Frame as statement
-use Rattle·speakall.specs.Plan.{Channel}
-use Rattle·std.specs.Of.Vec.{vec-items}
-use Rattle·std.specs.declared.option.Option.{Option}
-use Rattle·std.specs.declared.option.Option.the-variants.{Some, None}
+-- speakers_in, refusal_in. Assumes nothing.
+use Rattle.std.specs.Prelude.{List, [], ◌∷◌, map, Some, None, vec_items, Option}
+use Rattle.faults.specs.declared.fault.Fault.{Fault}
+use Rattle.frames.specs.declared.speaker.Speaker.{Speaker}
+use Rattle.frames.specs.Slots.{refusal, speaker}
+use Rattle.speakall.specs.Frame as statement
+use Rattle.speakall.specs.Plan.{Channel}
 
-abbrev pub speakerIn : Channel → Speaker → statement.Speaker
-speakerIn c s = speaker c (s .number) (vec-items (s .message))
+abbrev pub speaker_in : Channel → Speaker → statement.Speaker
+speaker_in c s = speaker c s.number (vec_items s.message)
 
-abbrev pub speakersIn : Channel → List Speaker → List statement.Speaker
-speakersIn c ss = map (speakerIn c) ss
+abbrev pub speakers_in : Channel → List Speaker → List statement.Speaker
+speakers_in c ss = map (speaker_in c) ss
 
-abbrev pub orElse : Option Fault → Option Fault → Option Fault
-orElse None o = o
-orElse (Some e) o = Some e
+abbrev pub or_else : Option Fault → Option Fault → Option Fault
+or_else None o = o
+or_else (Some e) o = Some e
 
 -- why one of them cannot speak: the first that cannot
-unfoldable pub refusalIn : Channel → List Speaker → Option Fault
-refusalIn c [] = None
-refusalIn c (s ∷ ss) = orElse (refusal c (s .number) (vec-items (s .message))) (refusalIn c ss)
+unfoldable pub refusal_in : Channel → List Speaker → Option Fault
+refusal_in c [] = None
+refusal_in c (s ∷ ss) = or_else (refusal c s.number (vec_items s.message)) (refusal_in c ss)

@@ -1,11 +1,7 @@
 // What is heard in a whole frame, slot by slot: the slots of part 0, then those of part 1, and so on.
-ghost use Prim.Native.Nat.{_*_, _^_, _<_, _≤_};
-ghost use Rattle·frames·specs.Slots.{slotIn, thereIn};
-ghost use Rattle·std.specs.Options.{Cases as BySome};
-ghost use Rattle·std.specs.Of.Vec.{vec-items, vec-len};
-ghost use lib.ListN.{length};
-ghost use mathlib.Core.Bool.{true};
-ghost use mathlib.Core.Path.{_≡_};
+ghost use Rattle.std.specs.Prelude.{◌≡◌, ◌*◌, ◌^◌, ◌<◌, ◌≤◌, true, length, vec_len, MatchOption};
+ghost use Rattle.frames.specs.Slots.{slot_in, there_in};
+
 use crate::slot::Slot;
 use channels::Channel;
 
@@ -19,28 +15,28 @@ pub struct Frame {
     channel: Channel,
     slots: Vec<Slot>,
     // q × q slots, and no word of a sender that isn't there.
-    ghost whole: { vec-len slots ≡ channel .q * channel .q },
-    ghost there: { thereIn (channel .q ^ channel .d) (vec-items slots) ≡ true },
+    ghost whole: { vec_len slots ≡ channel.q * channel.q },
+    ghost there: { there_in (channel.q ^ channel.d) slots.items ≡ true },
 }
 
 impl Frame {
     // The channel that the frame is of.
     pub fn channel(&self) -> Channel
-        ensures { λ r. ⌜ r ≡ now (self .entry) .channel ⌝ }
+        ensures { result ≡ self.now.channel }
     {
         self.channel
     }
 
     // What is heard in every slot: those of part 0 first, then those of part 1, and so on.
     pub fn slots(&self) -> &[Slot]
-        ensures { λ r. ⌜ now r ≡ vec-items (now (self .entry) .slots) ⌝ }
+        ensures { result.now ≡ self.now.slots.items }
     {
         &self.slots
     }
 
     // What is heard in a slot of a part; none for a part or slot that isn't there.
     pub fn slot(&self, part: u8, y: u8) -> Option<Slot>
-        ensures { λ r. ⌜ BySome r (part < now (self .entry) .channel .q → now (self .entry) .channel .q ≤ y) (λ s. (part < now (self .entry) .channel .q) × (y < now (self .entry) .channel .q) × (s ≡ slotIn (now (self .entry) .channel .q) (vec-items (now (self .entry) .slots)) part y)) ⌝ }
+        ensures { MatchOption result (part < self.now.channel.q → self.now.channel.q ≤ y) (λ s. (part < self.now.channel.q) × (y < self.now.channel.q) × (s ≡ slot_in self.now.channel.q self.now.slots.items part y)) }
     {
         let q = self.channel.parts();
         if part >= q || y >= q {
@@ -52,10 +48,10 @@ impl Frame {
 
 // The slot y of a part, of which each has q.
 fn slot_at(slots: &[Slot], q: u8, part: u8, y: u8) -> Slot
-    requires part { ⌜ part < q ⌝ }
-    requires slot { ⌜ y < q ⌝ }
-    requires whole { ⌜ length (now slots) ≡ q * q ⌝ }
-    ensures { λ r. ⌜ r ≡ slotIn q (now (slots .entry)) part y ⌝ }
+    requires part { part < q }
+    requires slot { y < q }
+    requires whole { length slots.now ≡ q * q }
+    ensures { result ≡ slot_in q slots.now part y }
 {
     slots[part as usize * q as usize + y as usize]
 }

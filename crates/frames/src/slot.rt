@@ -1,6 +1,7 @@
 // What is heard in one slot of one part; a word stands in the case that holds it, beside its sender.
-ghost use Rattle·frames·specs.Slots.{isThere, joined, ownWord};
-ghost use mathlib.Core.Path.{_≡_};
+ghost use Rattle.frames.specs.Slots.{is_there, joined, own_word};
+ghost use Rattle.std.specs.Prelude.{◌≡◌};
+
 use messages::PartWord;
 
 #[derive(Clone, Copy, PartialEq, Eq, Debug)]
@@ -16,7 +17,7 @@ pub enum Slot {
 impl Slot {
     // The slot once one sender more speaks in it.
     pub fn with(self, sender: u32, word: u32) -> Slot
-        ensures { λ r. ⌜ r ≡ joined sender word self ⌝ }
+        ensures { result ≡ joined sender word self }
     {
         match self {
             Slot::Silence => Slot::One { sender, word },
@@ -26,7 +27,7 @@ impl Slot {
 
     // The word of this sender in the slot, with the part in which the slot lies; none where it is not alone there.
     pub fn word_of(self, number: u32, part: u8) -> Option<PartWord>
-        ensures { λ r. ⌜ r ≡ ownWord number part self ⌝ }
+        ensures { result ≡ own_word number part self }
     {
         match self {
             Slot::One { sender, word } => {
@@ -42,7 +43,7 @@ impl Slot {
 
     // Whether the word in the slot, if there is one, is of a sender below this number.
     pub fn is_below(self, senders: u32) -> bool
-        ensures { λ r. ⌜ r ≡ isThere senders self ⌝ }
+        ensures { result ≡ is_there senders self }
     {
         match self {
             Slot::One { sender, .. } => sender < senders,

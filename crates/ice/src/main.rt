@@ -1,28 +1,21 @@
 // The program that shows one frame: `ice frame Q D K NUMBER[=A,B,..]..` prints who speaks, what is heard and what is read, from the
 // records of what is heard, written and read back; with `--raw` it writes their bytes. All that can be said of its answers is said
 // by the contracts of `frames`, `aired` and of the crates whose names begin with `ice_`.
+#![tactic(auto)]
+
 use aired::Aired;
+use anyhow::anyhow;
 use channels::Channel;
 use command_words::Line;
-use command_words::LineDisplay;
 use faults::Fault;
-use faults::fault::FaultDisplay;
-use faults::fault::FaultFromAlloc;
-use faults::fault::FaultFromRefused;
 use frames::Frame;
 use ice_grid::SIGNS;
 use ice_speakers::Heard;
-use ice_words::FrameWords;
-use ice_words::Misuse;
-use ice_words::Request;
-use ice_words::USAGE;
+use ice_words::{FrameWords, Misuse, Request, USAGE};
 use options::Sorted;
 use std::alloc::Global;
-use std::env;
-use std::error::AnyError;
-use std::io;
-use std::io::BufWriter;
-use std::io::Write;
+use std::io::{BufWriter, Write};
+use std::{env, io};
 
 // The senders with their slots.
 fn plans(heap: Global, channel: Channel, numbers: &[u32]) -> Result<Vec<String>, Fault> {
@@ -83,8 +76,8 @@ fn shown(heap: Global, channel: Channel, asked: &FrameWords, raw: bool) -> Resul
 }
 
 // Prints the channel's line and the sections, each after an empty line.
-fn print_all(rt: &LibcRuntime, channel: Channel, sections: [Vec<String>; 4]) -> io::Result<()> {
-    let mut out = BufWriter::new(rt.stdout());
+fn print_all(rt: &HostRuntime, channel: Channel, sections: [Vec<String>; 4]) -> io::Result<()> {
+    let mut out = BufWriter::new(rt.alloc(), rt.stdout())?;
     let line = Line::of(channel);
     writeln!(out, "{line}")?;
     for section in sections {
@@ -97,32 +90,32 @@ fn print_all(rt: &LibcRuntime, channel: Channel, sections: [Vec<String>; 4]) -> 
 }
 
 // Tells that what was to be written could not be, and fails.
-fn written(rt: &LibcRuntime, done: io::Result<()>) -> Result<(), AnyError> {
+fn written(rt: &HostRuntime, done: io::Result<()>) -> anyhow::Result<()> {
     if done.is_err() {
-        eprintln!(rt, "ice: standard output cannot be written")?;
+        eprintln!(rt; "ice: standard output cannot be written")?;
     }
     Ok(done?)
 }
 
 // Tells which word is wrong and what is wanted, and fails.
-fn correct(rt: &LibcRuntime, misuse: Misuse, texts: &[String]) -> Result<(), AnyError> {
+fn correct(rt: &HostRuntime, misuse: Misuse, texts: &[String]) -> anyhow::Result<()> {
     if matches!(misuse, Misuse::Nothing) {
-        eprint!(rt, "{USAGE}")?;
+        eprint!(rt; "{USAGE}")?;
     } else {
         let text = ice_words::told(rt.alloc(), misuse, texts)?;
-        eprintln!(rt, "{text}")?;
+        eprintln!(rt; "{text}")?;
     }
-    Err("misuse".into())
+    Err(anyhow!("misuse"))
 }
 
 // Tells why there is no frame, and fails.
-fn refuse(rt: &LibcRuntime, fault: Fault) -> Result<(), AnyError> {
-    eprintln!(rt, "{fault}")?;
-    Err("no frame".into())
+fn refuse(rt: &HostRuntime, fault: Fault) -> anyhow::Result<()> {
+    eprintln!(rt; "{fault}")?;
+    Err(anyhow!("no frame"))
 }
 
 // The frame is shown, or told why there is none.
-fn frame(rt: &LibcRuntime, asked: &FrameWords, raw: bool) -> Result<(), AnyError> {
+fn frame(rt: &HostRuntime, asked: &FrameWords, raw: bool) -> anyhow::Result<()> {
     let channel = match ice_speakers::channel_of(asked.q, asked.d, asked.k) {
         Ok(channel) => channel,
         Err(fault) => return refuse(rt, fault),
@@ -134,11 +127,11 @@ fn frame(rt: &LibcRuntime, asked: &FrameWords, raw: bool) -> Result<(), AnyError
     }
 }
 
-fn main(rt: LibcRuntime) -> Result<(), AnyError> {
+fn main(rt: HostRuntime) -> anyhow::Result<()> {
     let texts = env::args(&rt)?.skip(1).collect::<Vec<String>>(rt.alloc())?;
     let Sorted { given, words } = options::take_out(rt.alloc(), "--raw", &texts)?;
     match ice_words::read_words(rt.alloc(), &words) {
-        Ok(Request::Help) => written(&rt, print!(rt, "{USAGE}")),
+        Ok(Request::Help) => written(&rt, print!(rt; "{USAGE}")),
         Ok(Request::Frame(asked)) => frame(&rt, &asked, given),
         Err(misuse) => correct(&rt, misuse, &words),
     }

@@ -1,67 +1,60 @@
 -- The signs of the grid, and its rows.
--- letters, letterOf, markOf; blanksOf, marksTo, signsOf, rowOf; digitOf, digitsTo; linesIn, headerOf, headersOf. Assumes nothing.
-use mathlib.Core.List.{List, [], _∷_, _++_, map}
-use mathlib.Core.Bool.{cond, _&&_, _||_}
-use Prim.Native.Nat.{ℕ, zero, suc, _+_, _/_, _%_}
-use lib.Chars.{codes}
-use lib.Dec.{eqb, ltb}
-use lib.Utf8.{encode}
-use Rattle·frames.specs.declared.slot.Slot.{Slot}
-use Rattle·frames.specs.declared.slot.Slot.the-variants.{Silence, One, Noise}
-use Rattle·frames.specs.Slots.{slotIn}
-use Rattle·std.specs.Of.String.{string-bytes}
-use Rattle·std.specs.Written.{decimal}
-use Rattle·std.specs.declared.alloc.Global.{Global}
-use Rattle·std.specs.declared.string.String.{String}
+-- letters, letter_of, mark_of; blanks_of, marks_to, signs_of, row_of; digit_of, digits_to; lines_in, header_of, headers_of. Assumes nothing.
+use Rattle.std.specs.Prelude.{ℕ, zero, suc, ◌+◌, ◌/◌, ◌%◌, cond, ◌&&◌, ◌||◌, List, [], ◌∷◌, ◌++◌, map, string_bytes, codes, decimal, String, ◌==◌, nat_lt}
+use Rattle.std.proofs.Math.Utf8.{encode}
+use Rattle.frames.specs.declared.slot.Slot.{Slot}
+use Rattle.frames.specs.declared.slot.Slot.TheVariants.{Silence, One, Noise}
+use Rattle.frames.specs.Slots.{slot_in}
+use Rattle.std.specs.declared.alloc.Global.{Global}
 
 abbrev pub letters : List ℕ
 letters = codes "abcdefghijklmnopqrstuvwxyzABCDEFGHIJKLMNOPQRSTUVWXYZ"
 
 -- the letter in the place of a sender's number, and a question mark where there is none
-unfoldable pub letterOf : ℕ → (numbers letters : List ℕ) → ℕ
-letterOf n [] ls = 63
-letterOf n (m ∷ ms) [] = 63
-letterOf n (m ∷ ms) (l ∷ ls) = cond (eqb m n) l (letterOf n ms ls)
+unfoldable pub letter_of : ℕ → (numbers letters : List ℕ) → ℕ
+letter_of n [] ls = 63
+letter_of n (m ∷ ms) [] = 63
+letter_of n (m ∷ ms) (l ∷ ls) = cond (m == n) l (letter_of n ms ls)
 
 -- the sign of a slot: a dot, the letter of the one that is heard, or a hash
-abbrev pub markOf : Slot → (numbers : List ℕ) → ℕ
-markOf Silence ns = 46
-markOf (One n w) ns = letterOf n ns letters
-markOf Noise ns = 35
+abbrev pub mark_of : Slot → (numbers : List ℕ) → ℕ
+mark_of Silence ns = 46
+mark_of (One n w) ns = letter_of n ns letters
+mark_of Noise ns = 35
 
 -- the blanks that bring a number to three places
-abbrev pub blanksOf : ℕ → List ℕ
-blanksOf y = cond (ltb y 10) (codes "  ") (cond (ltb y 100) (codes " ") (codes ""))
+abbrev pub blanks_of : ℕ → List ℕ
+blanks_of y = cond (nat_lt y 10) (codes "  ") (cond (nat_lt y 100) (codes " ") (codes ""))
 
 -- for each of the first n parts a space, and the sign of its slot y
-unfoldable pub marksTo : (q : ℕ) → List Slot → (numbers : List ℕ) → (y n : ℕ) → List ℕ
-marksTo q slots ns y zero = []
-marksTo q slots ns y (suc n) = marksTo q slots ns y n ++ (encode 32 ++ encode (markOf (slotIn q slots n y) ns))
+unfoldable pub marks_to : (q : ℕ) → List Slot → (numbers : List ℕ) → (y n : ℕ) → List ℕ
+marks_to q slots ns y zero = []
+marks_to q slots ns y (suc n) = marks_to q slots ns y n ++ (encode 32 ++ encode (mark_of (slot_in q slots n y) ns))
 
 -- the signs of slot y in all q parts; a slot that isn't there has none
-unfoldable pub signsOf : (q : ℕ) → List Slot → (numbers : List ℕ) → (y : ℕ) → List ℕ
-signsOf q slots ns y = cond (ltb y q) (marksTo q slots ns y q) []
+unfoldable pub signs_of : (q : ℕ) → List Slot → (numbers : List ℕ) → (y : ℕ) → List ℕ
+signs_of q slots ns y = cond (nat_lt y q) (marks_to q slots ns y q) []
 
 -- the row of slot y: its number, and its signs
-abbrev pub rowOf : (q : ℕ) → List Slot → (numbers : List ℕ) → (y : ℕ) → List ℕ
-rowOf q slots ns y = (blanksOf y ++ decimal y) ++ signsOf q slots ns y
+abbrev pub row_of : (q : ℕ) → List Slot → (numbers : List ℕ) → (y : ℕ) → List ℕ
+row_of q slots ns y = (blanks_of y ++ decimal y) ++ signs_of q slots ns y
 
 -- the digit of a number at a place, 100, 10 or 1; a blank for a zero before the first digit
-abbrev pub digitOf : (part place : ℕ) → ℕ
-digitOf part place = cond (eqb place 0 || (ltb 1 place && ltb part place)) 32 (48 + part / place % 10)
+abbrev pub digit_of : (part place : ℕ) → ℕ
+digit_of part place = cond (place == 0 || (nat_lt 1 place && nat_lt part place)) 32 (48 + part / place % 10)
 
 -- the digits at a place of the numbers of the first n parts, a space before each
-unfoldable pub digitsTo : (place n : ℕ) → List ℕ
-digitsTo place zero = []
-digitsTo place (suc n) = digitsTo place n ++ (encode 32 ++ encode (digitOf n place))
+unfoldable pub digits_to : (place n : ℕ) → List ℕ
+digits_to place zero = []
+digits_to place (suc n) = digits_to place n ++ (encode 32 ++ encode (digit_of n place))
 
 -- what the lines hold
-abbrev pub linesIn : List (String Global) → List (List ℕ)
-linesIn lines = map string-bytes lines
+abbrev pub lines_in : List (String Global) → List (List ℕ)
+lines_in lines = map string_bytes lines
 
 -- the line of a place over the signs of q parts, where the highest of their numbers has the place
-unfoldable pub headerOf : (q place : ℕ) → List (List ℕ)
-headerOf q place = cond (ltb place q) ((codes "   " ++ digitsTo place q) ∷ []) []
+unfoldable pub header_of : (q place : ℕ) → List (List ℕ)
+header_of q place = cond (nat_lt place q) ((codes "   " ++ digits_to place q) ∷ []) []
 
-abbrev pub headersOf : (q : ℕ) → List (List ℕ)
-headersOf q = (headerOf q 100 ++ headerOf q 10) ++ headerOf q 1
+abbrev pub headers_of : (q : ℕ) → List (List ℕ)
+headers_of q = (header_of q 100 ++ header_of q 10) ++ header_of q 1

@@ -1,18 +1,12 @@
 // The grid of a frame: a row for each slot's number, in it a sign for each part.
 // A label of three places stands before each row, and a space before each sign.
-ghost use Rattle·ice_grid·specs.Marks.{blanksOf, digitOf, digitsTo, headerOf, headersOf, linesIn, rowOf, signsOf};
-ghost use Rattle·std.specs.Of.String.{string-bytes};
-ghost use Rattle·std.specs.Of.Vec.{vec-items};
-ghost use Rattle·std.specs.Vec.{made};
-ghost use Rattle·std.specs.Written.{decimal};
-ghost use lib.Chars.{codes};
-ghost use lib.Utf8.{encode};
-ghost use mathlib.Core.List.{_++_};
-ghost use mathlib.Core.Path.{_≡_};
+ghost use Rattle.ice_grid.specs.Marks.{blanks_of, digit_of, digits_to, header_of, headers_of, lines_in, row_of, signs_of};
+ghost use Rattle.std.specs.Prelude.{◌≡◌, ◌++◌, IfOk, string_bytes, codes, decimal, OnOk};
+ghost use Rattle.std.proofs.Math.Utf8.{encode};
+
 use crate::marks::mark;
 use frames::Frame;
-use std::alloc::AllocError;
-use std::alloc::Global;
+use std::alloc::{AllocError, Global};
 
 // What the signs mean.
 pub const SIGNS: &str =
@@ -20,7 +14,7 @@ pub const SIGNS: &str =
 
 // The blanks that bring a number below 1000 to three places.
 fn blanks(y: u8) -> &'static str
-    ensures { λ r. ⌜ now r ≡ blanksOf y ⌝ }
+    ensures { result.now ≡ blanks_of y }
 {
     if y < 10 {
         "  "
@@ -33,7 +27,7 @@ fn blanks(y: u8) -> &'static str
 
 // The digit of a part's number at a place, 100, 10 or 1; a blank for a zero before the first digit.
 fn digit(part: u8, place: u8) -> char
-    ensures { λ r. ⌜ r ≡ digitOf part place ⌝ }
+    ensures { result ≡ digit_of part place }
 {
     if place == 0 || place > 1 && part < place {
         return ' ';
@@ -43,7 +37,7 @@ fn digit(part: u8, place: u8) -> char
 
 // A sign more, after a space.
 fn put(text: &mut String, sign: char) -> Result<(), AllocError>
-    ensures { λ r. ⌜ made r (λ _. string-bytes (now (text .exit)) ≡ string-bytes (now (text .entry)) ++ (encode 32 ++ encode sign)) ⌝ }
+    ensures { OnOk result (string_bytes text.new ≡ string_bytes text.old ++ (encode 32 ++ encode sign)) }
 {
     text.push(' ')?;
     text.push(sign)?;
@@ -52,7 +46,7 @@ fn put(text: &mut String, sign: char) -> Result<(), AllocError>
 
 // The digits of the parts' numbers at a place, 100, 10 or 1, over the signs of the q parts.
 fn header(heap: Global, q: u8, place: u8) -> Result<String, AllocError>
-    ensures { λ r. ⌜ made r (λ s. string-bytes s ≡ codes "   " ++ digitsTo place q) ⌝ }
+    ensures { IfOk result (λ s. string_bytes s ≡ codes "   " ++ digits_to place q) }
 {
     let mut text = String::from_str(heap, "   ")?;
     for part in 0..q {
@@ -63,7 +57,7 @@ fn header(heap: Global, q: u8, place: u8) -> Result<String, AllocError>
 
 // One line more, unless the parts' numbers are too short for the place.
 fn add_header(heap: Global, q: u8, place: u8, lines: &mut Vec<String>) -> Result<(), AllocError>
-    ensures { λ r. ⌜ made r (λ _. linesIn (vec-items (now (lines .exit))) ≡ linesIn (vec-items (now (lines .entry))) ++ headerOf q place) ⌝ }
+    ensures { OnOk result (lines_in lines.new.items ≡ lines_in lines.old.items ++ header_of q place) }
 {
     if place < q {
         lines.push(header(heap, q, place)?)?;
@@ -73,7 +67,7 @@ fn add_header(heap: Global, q: u8, place: u8, lines: &mut Vec<String>) -> Result
 
 // The numbers of the q parts, over their signs: a line for each place of the highest.
 pub fn headers(heap: Global, q: u8) -> Result<Vec<String>, AllocError>
-    ensures { λ r. ⌜ made r (λ v. linesIn (vec-items v) ≡ headersOf q) ⌝ }
+    ensures { IfOk result (λ v. lines_in v.items ≡ headers_of q) }
 {
     let mut lines = Vec::new(heap);
     add_header(heap, q, 100, &mut lines)?;
@@ -84,15 +78,15 @@ pub fn headers(heap: Global, q: u8) -> Result<Vec<String>, AllocError>
 
 // The number of a row, in three places.
 fn label(heap: Global, y: u8) -> Result<String, AllocError>
-    ensures { λ r. ⌜ made r (λ s. string-bytes s ≡ blanksOf y ++ decimal y) ⌝ }
+    ensures { IfOk result (λ s. string_bytes s ≡ blanks_of y ++ decimal y) }
 {
     let blanks = blanks(y);
-    format!(heap, "{blanks}{y}")
+    format!(in heap; "{blanks}{y}")
 }
 
 // The signs of slot y in all parts; none where the frame has no such slot.
 fn put_signs(text: &mut String, frame: &Frame, numbers: &[u32], y: u8) -> Result<(), AllocError>
-    ensures { λ r. ⌜ made r (λ _. string-bytes (now (text .exit)) ≡ string-bytes (now (text .entry)) ++ signsOf (now (frame .entry) .channel .q) (vec-items (now (frame .entry) .slots)) (now (numbers .entry)) y) ⌝ }
+    ensures { OnOk result (string_bytes text.new ≡ string_bytes text.old ++ signs_of frame.now.channel.q frame.now.slots.items numbers.now y) }
 {
     for part in 0..u8::MAX {
         let Some(slot) = frame.slot(part, y) else {
@@ -105,7 +99,7 @@ fn put_signs(text: &mut String, frame: &Frame, numbers: &[u32], y: u8) -> Result
 
 // The row of slot y: its number, and the sign of that slot in each part.
 pub fn row(heap: Global, frame: &Frame, numbers: &[u32], y: u8) -> Result<String, AllocError>
-    ensures { λ r. ⌜ made r (λ s. string-bytes s ≡ rowOf (now (frame .entry) .channel .q) (vec-items (now (frame .entry) .slots)) (now (numbers .entry)) y) ⌝ }
+    ensures { IfOk result (λ s. string_bytes s ≡ row_of frame.now.channel.q frame.now.slots.items numbers.now y) }
 {
     let mut text = label(heap, y)?;
     put_signs(&mut text, frame, numbers, y)?;

@@ -1,6 +1,7 @@
 // The sign of one slot in the grid: silence, the letter of the sender that is alone in it, or noise.
-ghost use Rattle·ice_grid·specs.Marks.{letterOf, letters, markOf};
-ghost use mathlib.Core.Path.{_≡_};
+ghost use Rattle.ice_grid.specs.Marks.{letter_of, letters, mark_of};
+ghost use Rattle.std.specs.Prelude.{◌≡◌};
+
 use frames::Slot;
 
 // Letters of the first senders; the others have a question mark.
@@ -8,7 +9,7 @@ const LETTERS: [u8; 52] = *b"abcdefghijklmnopqrstuvwxyzABCDEFGHIJKLMNOPQRSTUVWXY
 
 // The letter of a sender: that of its place among these numbers, of which only the first 52 are looked at.
 pub fn letter(number: u32, numbers: &[u32]) -> char
-    ensures { λ r. ⌜ r ≡ letterOf number (now (numbers .entry)) letters ⌝ }
+    ensures { result ≡ letter_of number numbers.now letters }
 {
     for i in 0..numbers.len().min(52) {
         if numbers[i] == number {
@@ -20,7 +21,7 @@ pub fn letter(number: u32, numbers: &[u32]) -> char
 
 // The sign of a slot of a frame in which the senders with these numbers speak.
 pub fn mark(slot: Slot, numbers: &[u32]) -> char
-    ensures { λ r. ⌜ r ≡ markOf slot (now (numbers .entry)) ⌝ }
+    ensures { result ≡ mark_of slot numbers.now }
 {
     match slot {
         Slot::Silence => '.',

@@ -1,18 +1,14 @@
 // What is heard of a sender: in which parts, and which words.
-ghost use Rattle·ice_lines·specs.Lines.{colonOf, heardText, inPartsOf, inSomeParts, partOf, valueOf};
-ghost use Rattle·std.specs.Of.String.{string-bytes};
-ghost use Rattle·std.specs.Of.Vec.{vec-items};
-ghost use Rattle·std.specs.Vec.{made};
-ghost use mathlib.Core.List.{map};
-ghost use mathlib.Core.Path.{_≡_};
+ghost use Rattle.ice_lines.specs.Lines.{colonOf, heardText, inPartsOf, inSomeParts, part_of, value_of};
+ghost use Rattle.std.specs.Prelude.{◌≡◌, map, IfOk, string_bytes};
+
 use crate::texts::spaced;
 use messages::PartWord;
-use std::alloc::AllocError;
-use std::alloc::Global;
+use std::alloc::{AllocError, Global};
 
 // The parts in which the words were heard.
 fn parts_of(heap: Global, words: &[PartWord]) -> Result<Vec<u32>, AllocError>
-    ensures { λ r. ⌜ made r (λ v. vec-items v ≡ map partOf (now (words .entry))) ⌝ }
+    ensures { IfOk result (λ v. v.items ≡ map part_of words.now) }
 {
     let mut parts = Vec::new(heap);
     for word in words {
@@ -22,7 +18,7 @@ fn parts_of(heap: Global, words: &[PartWord]) -> Result<Vec<u32>, AllocError>
 }
 
 fn values_of(heap: Global, words: &[PartWord]) -> Result<Vec<u32>, AllocError>
-    ensures { λ r. ⌜ made r (λ v. vec-items v ≡ map valueOf (now (words .entry))) ⌝ }
+    ensures { IfOk result (λ v. v.items ≡ map value_of words.now) }
 {
     let mut values = Vec::new(heap);
     for word in words {
@@ -33,7 +29,7 @@ fn values_of(heap: Global, words: &[PartWord]) -> Result<Vec<u32>, AllocError>
 
 // What stands between a count of words, of which there are some, and their parts.
 fn in_some_parts(n: usize) -> &'static str
-    ensures { λ r. ⌜ now r ≡ inSomeParts n ⌝ }
+    ensures { result.now ≡ inSomeParts n }
 {
     if n == 1 {
         " word, in part"
@@ -44,25 +40,25 @@ fn in_some_parts(n: usize) -> &'static str
 
 // What stands between a count of words and their parts.
 fn in_parts(n: usize) -> &'static str
-    ensures { λ r. ⌜ now r ≡ inPartsOf n ⌝ }
+    ensures { result.now ≡ inPartsOf n }
 {
     if n == 0 { " words" } else { in_some_parts(n) }
 }
 
 // What stands before the words.
 fn colon(n: usize) -> &'static str
-    ensures { λ r. ⌜ now r ≡ colonOf n ⌝ }
+    ensures { result.now ≡ colonOf n }
 {
     if n == 0 { "" } else { ":" }
 }
 
 // What is heard of a sender, as `sender 7: 4 words, in parts 1 2 3 4: 11 12 13 14`.
 pub fn heard(heap: Global, number: u32, words: &[PartWord]) -> Result<String, AllocError>
-    ensures { λ r. ⌜ made r (λ s. string-bytes s ≡ heardText number (now (words .entry))) ⌝ }
+    ensures { IfOk result (λ s. string_bytes s ≡ heardText number words.now) }
 {
     let parts = spaced(heap, &parts_of(heap, words)?)?;
     let values = spaced(heap, &values_of(heap, words)?)?;
     let n = words.len();
     let (in_parts, colon) = (in_parts(n), colon(n));
-    format!(heap, "sender {number}: {n}{in_parts}{parts}{colon}{values}")
+    format!(in heap; "sender {number}: {n}{in_parts}{parts}{colon}{values}")
 }

@@ -1,21 +1,22 @@
 // In how many parts of a frame its senders meet, as the program `ice` tells it.
+#![tactic(auto)]
+
 mod meeting;
 mod told;
 
 pub use meeting::Meeting;
-pub use meeting::MeetingDisplay;
 pub use told::meetings;
 
 #[cfg(test)]
 mod tests {
     use super::*;
     use channels::Channel;
-    use faults::fault::FaultDebug;
-    use std::test::*;
+    use std::test::Fail;
 
     #[test]
-    fn of_two(rt: LibcRuntime) -> Result<(), Fail> {
+    fn of_two(rt: HostRuntime) -> Result<(), Fail> {
         let lines = meetings(rt.alloc(), Channel::new(5, 2, 2)?, &[7, 17])?;
-        check(lines.len() == 2)
+        assert!(rt; lines.len() == 2);
+        Ok(())
     }
 }

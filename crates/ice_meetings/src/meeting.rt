@@ -1,20 +1,16 @@
 // In how many parts of a frame two senders meet.
-ghost use Prim.Native.Nat.{_^_, _≤_};
-ghost use Rattle·channels.specs.Settings.{settings};
-ghost use Rattle·faults.specs.declared.fault.Fault.the-variants.{Sender as FaultSender};
-ghost use Rattle·ice_meetings·specs.Meets.{MeetingOf, meetingText, partsOf};
-ghost use Rattle·std.specs.Results.{Cases};
-ghost use Rattle·std.specs.declared.option.Option.the-variants.{Some};
-ghost use mathlib.Core.Logic.{_⊎_};
-ghost use mathlib.Core.Path.{_≡_};
-use channels::Channel;
-use channels::Plan;
+ghost use Rattle.std.specs.Prelude.{◌≡◌, ◌^◌, ◌≤◌, ◌⊎◌, Some, MatchResult};
+ghost use Rattle.channels.specs.Settings.{settings};
+ghost use Rattle.faults.specs.declared.fault.Fault.TheVariants.{Sender as FaultSender};
+ghost use Rattle.ice_meetings.specs.Meets.{MeetingOf, meeting_text, parts_of};
+
+use channels::{Channel, Plan};
 use faults::Fault;
 use std::fmt;
 
 // `part` or `parts`, as the count asks.
 pub fn parts(count: u8) -> &'static str
-    ensures { λ r. ⌜ now r ≡ partsOf count ⌝ }
+    ensures { result.now ≡ parts_of count }
 {
     if count == 1 { "part" } else { "parts" }
 }
@@ -30,7 +26,7 @@ pub struct Meeting {
 impl Meeting {
     // Of two senders of the channel, or `Fault::Sender`.
     pub fn of(channel: Channel, one: u32, other: u32) -> Result<Meeting, Fault>
-        ensures { λ r. ⌜ Cases r (λ m. MeetingOf (settings channel) one other m) (λ e. (e ≡ FaultSender) × ((settings channel .q ^ settings channel .d ≤ one) ⊎ (settings channel .q ^ settings channel .d ≤ other))) ⌝ }
+        ensures { MatchResult result (λ m. MeetingOf (settings channel) one other m) (λ e. (e ≡ FaultSender) × (((settings channel).q ^ (settings channel).d ≤ one) ⊎ ((settings channel).q ^ (settings channel).d ≤ other))) }
     {
         let plan = Plan::of(channel, one)?;
         let count = plan.meets(Plan::of(channel, other)?);
@@ -38,8 +34,8 @@ impl Meeting {
     }
 }
 
-pub impl fmt::Display for Meeting as MeetingDisplay {
-    ghost shown = { λ m. Some (meetingText m) };
+impl fmt::Display for Meeting {
+    ghost output = { λ m. Some (meeting_text m) };
 
     fn fmt<W: fmt::Write>(&self, f: &mut fmt::Formatter<W>) -> fmt::Result {
         let Meeting { one, other, count } = *self;

@@ -1,20 +1,12 @@
 // In how many parts of a frame the senders meet: every two of a few, and of many the two that meet most.
-ghost use Prim.Native.Nat.{_-_, _≤_, max};
-ghost use Rattle·channels.specs.Settings.{settings};
-ghost use Rattle·ice_meetings·specs.Meets.{countsOf, everyTwo, fewOrMost, limitText, linesIn, meetingLines, meetsIn, mostOf, mostText, pairText};
-ghost use Rattle·std.specs.Of.String.{string-bytes};
-ghost use Rattle·std.specs.Of.Vec.{vec-items};
-ghost use Rattle·std.specs.Vec.{made};
-ghost use mathlib.Core.List.{[], _++_, _∷_, map};
-ghost use mathlib.Core.Path.{_≡_};
-use crate::meeting::Meeting;
-use crate::meeting::MeetingDisplay;
-use crate::meeting::parts;
+ghost use Rattle.std.specs.Prelude.{◌≡◌, ◌-◌, ◌≤◌, max, [], ◌∷◌, ◌++◌, map, IfOk, string_bytes, OnOk};
+ghost use Rattle.channels.specs.Settings.{settings};
+ghost use Rattle.ice_meetings.specs.Meets.{counts_of, every_two, few_or_most, limit_text, lines_in, meeting_lines, meets_in, most_of, most_text, pair_text};
+
+use crate::meeting::{Meeting, parts};
 use channels::Channel;
 use faults::Fault;
-use faults::fault::FaultFromAlloc;
-use std::alloc::AllocError;
-use std::alloc::Global;
+use std::alloc::{AllocError, Global};
 
 // Of so many senders every two are told of.
 const FEW: usize = 12;
@@ -27,8 +19,8 @@ fn most_with(
     limit: u8,
     most: u8,
 ) -> Result<u8, Fault>
-    requires { ⌜ most ≤ limit ⌝ }
-    ensures { λ r. ⌜ made r (λ m. (m ≤ limit) × (m ≡ max most (mostOf limit (map (meetsIn (settings channel) number) (now (others .entry)))))) ⌝ }
+    requires { most ≤ limit }
+    ensures { IfOk result (λ m. (m ≤ limit) × (m ≡ max most (most_of limit (map (meets_in (settings channel) number) others.now)))) }
 {
     let mut top = most;
     for other in others {
@@ -44,7 +36,7 @@ fn most_with(
 // The most parts in which two of these senders meet. No two senders of a channel meet in more than d - 1, which is the limit:
 // once two meet in so many, no more are looked at.
 fn most(channel: Channel, numbers: &[u32], limit: u8) -> Result<u8, Fault>
-    ensures { λ r. ⌜ made r (λ m. m ≡ mostOf limit (countsOf (settings channel) (now (numbers .entry)))) ⌝ }
+    ensures { IfOk result (λ m. m ≡ most_of limit (counts_of (settings channel) numbers.now)) }
 {
     let mut top = 0;
     for i in 0..numbers.len() {
@@ -55,10 +47,10 @@ fn most(channel: Channel, numbers: &[u32], limit: u8) -> Result<u8, Fault>
 
 // The line of two senders.
 fn pair(heap: Global, channel: Channel, one: u32, other: u32) -> Result<String, Fault>
-    ensures { λ r. ⌜ made r (λ s. string-bytes s ≡ pairText (settings channel) one other) ⌝ }
+    ensures { IfOk result (λ s. string_bytes s ≡ pair_text (settings channel) one other) }
 {
     let meeting = Meeting::of(channel, one, other)?;
-    Ok(format!(heap, "{meeting}")?)
+    Ok(format!(in heap; "{meeting}")?)
 }
 
 // A line for a sender and each of the others.
@@ -69,7 +61,7 @@ fn meet_with(
     others: &[u32],
     lines: &mut Vec<String>,
 ) -> Result<(), Fault>
-    ensures { λ r. ⌜ made r (λ _. linesIn (vec-items (now (lines .exit))) ≡ linesIn (vec-items (now (lines .entry))) ++ map (pairText (settings channel) number) (now (others .entry))) ⌝ }
+    ensures { OnOk result (lines_in lines.new.items ≡ lines_in lines.old.items ++ map (pair_text (settings channel) number) others.now) }
 {
     for other in others {
         push_line(lines, pair(heap, channel, number, *other)?)?;
@@ -79,7 +71,7 @@ fn meet_with(
 
 // A line for every two of the senders.
 fn every_two(heap: Global, channel: Channel, numbers: &[u32]) -> Result<Vec<String>, Fault>
-    ensures { λ r. ⌜ made r (λ v. linesIn (vec-items v) ≡ everyTwo (settings channel) (now (numbers .entry))) ⌝ }
+    ensures { IfOk result (λ v. lines_in v.items ≡ every_two (settings channel) numbers.now) }
 {
     let mut lines = Vec::new(heap);
     for i in 0..numbers.len() {
@@ -90,22 +82,22 @@ fn every_two(heap: Global, channel: Channel, numbers: &[u32]) -> Result<Vec<Stri
 
 // A line more.
 fn push_line(lines: &mut Vec<String>, line: String) -> Result<(), AllocError>
-    ensures { λ r. ⌜ made r (λ _. linesIn (vec-items (now (lines .exit))) ≡ linesIn (vec-items (now (lines .entry))) ++ (string-bytes line ∷ [])) ⌝ }
+    ensures { OnOk result (lines_in lines.new.items ≡ lines_in lines.old.items ++ (string_bytes line ∷ [])) }
 {
     lines.push(line)?;
     Ok(())
 }
 
 fn most_text(heap: Global, count: u8) -> Result<String, AllocError>
-    ensures { λ r. ⌜ made r (λ s. string-bytes s ≡ mostText count) ⌝ }
+    ensures { IfOk result (λ s. string_bytes s ≡ most_text count) }
 {
     let parts = parts(count);
-    format!(heap, "no two meet in more than {count} {parts}")
+    format!(in heap; "no two meet in more than {count} {parts}")
 }
 
 // The line of the two that meet most.
 fn most_line(heap: Global, channel: Channel, numbers: &[u32]) -> Result<String, Fault>
-    ensures { λ r. ⌜ made r (λ s. string-bytes s ≡ mostText (mostOf (settings channel .d - 1) (countsOf (settings channel) (now (numbers .entry))))) ⌝ }
+    ensures { IfOk result (λ s. string_bytes s ≡ most_text (most_of ((settings channel).d - 1) (counts_of (settings channel) numbers.now))) }
 {
     let count = most(channel, numbers, channel.digits() - 1)?;
     Ok(most_text(heap, count)?)
@@ -113,7 +105,7 @@ fn most_line(heap: Global, channel: Channel, numbers: &[u32]) -> Result<String, 
 
 // A line for every two of a few senders, and one line of many.
 fn few_or_most(heap: Global, channel: Channel, numbers: &[u32]) -> Result<Vec<String>, Fault>
-    ensures { λ r. ⌜ made r (λ v. linesIn (vec-items v) ≡ fewOrMost (settings channel) (now (numbers .entry))) ⌝ }
+    ensures { IfOk result (λ v. lines_in v.items ≡ few_or_most (settings channel) numbers.now) }
 {
     if numbers.len() <= FEW {
         return every_two(heap, channel, numbers);
@@ -125,14 +117,14 @@ fn few_or_most(heap: Global, channel: Channel, numbers: &[u32]) -> Result<Vec<St
 
 // In how many parts two senders of the channel meet at most.
 fn limit_line(heap: Global, limit: u8) -> Result<String, AllocError>
-    ensures { λ r. ⌜ made r (λ s. string-bytes s ≡ limitText limit) ⌝ }
+    ensures { IfOk result (λ s. string_bytes s ≡ limit_text limit) }
 {
-    format!(heap, "of any two senders: at most d - 1 = {limit}")
+    format!(in heap; "of any two senders: at most d - 1 = {limit}")
 }
 
 // In how many parts the senders meet, and in how many two senders of the channel meet at most.
 pub fn meetings(heap: Global, channel: Channel, numbers: &[u32]) -> Result<Vec<String>, Fault>
-    ensures { λ r. ⌜ made r (λ v. linesIn (vec-items v) ≡ meetingLines (settings channel) (now (numbers .entry))) ⌝ }
+    ensures { IfOk result (λ v. lines_in v.items ≡ meeting_lines (settings channel) numbers.now) }
 {
     let mut lines = few_or_most(heap, channel, numbers)?;
     push_line(&mut lines, limit_line(heap, channel.digits() - 1)?)?;

@@ -1,11 +1,10 @@
 // The frame in which the senders of the words speak, and their numbers.
-ghost use Rattle·ice_speakers·specs.Hearing.{HeardBy, UnheardBy};
-ghost use Rattle·std.specs.Results.{Cases};
-use crate::speakers::numbers_of;
-use crate::speakers::speakers_of;
+ghost use Rattle.ice_speakers.specs.Hearing.{HeardBy, UnheardBy};
+ghost use Rattle.std.specs.Result.{MatchResult};
+
+use crate::speakers::{numbers_of, speakers_of};
 use channels::Channel;
 use faults::Fault;
-use faults::fault::FaultFromAlloc;
 use frames::Frame;
 use sender_words::Spoken;
 use std::alloc::Global;
@@ -19,7 +18,7 @@ pub struct Heard {
 
 // What is heard when these and nobody else speak; the fault of the first that cannot, or `Fault::Memory`.
 pub fn hear(heap: Global, channel: Channel, spoken: &[Spoken]) -> Result<Heard, Fault>
-    ensures { λ r. ⌜ Cases r (λ h. HeardBy channel (now (spoken .entry)) h) (λ e. UnheardBy channel (now (spoken .entry)) e) ⌝ }
+    ensures { MatchResult result (λ h. HeardBy channel spoken.now h) (λ e. UnheardBy channel spoken.now e) }
 {
     let speakers = speakers_of(heap, channel, spoken)?;
     let frame = Frame::hear(heap, channel, &speakers)?;

@@ -1,11 +1,12 @@
 // From the numbers as they were written to a channel, and to the frame in which the senders speak.
 // A number wider than the calls take never becomes another that would be let through.
+#![tactic(auto)]
+
 mod heard;
 mod speakers;
 mod wide;
 
-pub use heard::Heard;
-pub use heard::hear;
+pub use heard::{Heard, hear};
 pub use wide::channel_of;
 
 // Numbers too wide, and speakers that cannot speak.
@@ -13,28 +14,27 @@ pub use wide::channel_of;
 mod tests {
     use super::*;
     use faults::Fault;
-    use faults::fault::FaultDebug;
     use sender_words::Spoken;
-    use std::test::*;
+    use std::test::Fail;
 
     #[test]
-    fn wide_numbers() -> Result<(), Fail> {
+    fn wide_numbers(rt: HostRuntime) {
         for (q, d, k) in [(261, 2, 2), (5, 258, 2), (5, 1, 256), (9, 2, 2)] {
-            check(matches!(channel_of(q, d, k), Err(Fault::Channel)))?;
+            assert!(rt; matches!(channel_of(q, d, k), Err(Fault::Channel)));
         }
-        Ok(())
     }
 
     #[test]
-    fn heard_of_one(rt: LibcRuntime) -> Result<(), Fail> {
+    fn heard_of_one(rt: HostRuntime) -> Result<(), Fail> {
         let heap = rt.alloc();
         let channel = channel_of(5, 2, 2)?;
         let message = None;
         let spoken = vec![in heap; Spoken { number: 7, message }]?;
         let heard = hear(heap, channel, &spoken)?;
-        check(heard.numbers.as_slice() == [7])?;
+        assert!(rt; heard.numbers.as_slice() == [7]);
         let message = Some([1, 2, 4_294_967_299].to_vec(heap)?);
         let spoken = vec![in heap; Spoken { number: 7, message }]?;
-        check(matches!(hear(heap, channel, &spoken), Err(Fault::Message)))
+        assert!(rt; matches!(hear(heap, channel, &spoken), Err(Fault::Message)));
+        Ok(())
     }
 }

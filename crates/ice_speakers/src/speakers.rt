@@ -1,22 +1,19 @@
 // The speakers that the senders' words give, and their numbers.
-ghost use Rattle·channels.specs.Settings.{settings};
-ghost use Rattle·command_words.specs.Each.{Each};
-ghost use Rattle·ice_speakers·specs.Speakers.{Says, numberIn};
-ghost use Rattle·ice_speakers·specs.Wide.{messageOf, narrow};
-ghost use Rattle·speakall.specs.Plan.{size};
-ghost use Rattle·std.specs.Of.Vec.{vec-items};
-ghost use Rattle·std.specs.Vec.{made};
-ghost use mathlib.Core.List.{map};
-ghost use mathlib.Core.Path.{_≡_};
+ghost use Rattle.channels.specs.Settings.{settings};
+ghost use Rattle.command_words.specs.Each.{Each};
+ghost use Rattle.ice_speakers.specs.Speakers.{Says, number_in};
+ghost use Rattle.ice_speakers.specs.Wide.{message_of, narrow};
+ghost use Rattle.speakall.specs.Plan.{size};
+ghost use Rattle.std.specs.Prelude.{◌≡◌, map, IfOk};
+
 use crate::wide::narrowed;
 use channels::Channel;
 use frames::Speaker;
 use sender_words::Spoken;
-use std::alloc::AllocError;
-use std::alloc::Global;
+use std::alloc::{AllocError, Global};
 
 fn all_narrowed(heap: Global, numbers: &[u64]) -> Result<Vec<u32>, AllocError>
-    ensures { λ r. ⌜ made r (λ v. vec-items v ≡ map narrow (now (numbers .entry))) ⌝ }
+    ensures { IfOk result (λ v. v.items ≡ map narrow numbers.now) }
 {
     let mut all = Vec::new(heap);
     for n in numbers {
@@ -27,7 +24,7 @@ fn all_narrowed(heap: Global, numbers: &[u64]) -> Result<Vec<u32>, AllocError>
 
 // The message that a sender says: the one given, or s zeros.
 fn message_of(heap: Global, channel: Channel, spoken: &Spoken) -> Result<Vec<u32>, AllocError>
-    ensures { λ r. ⌜ made r (λ v. vec-items v ≡ messageOf (size (settings channel)) (now (spoken .entry) .message)) ⌝ }
+    ensures { IfOk result (λ v. v.items ≡ message_of (size (settings channel)) spoken.now.message) }
 {
     match &spoken.message {
         Some(numbers) => all_narrowed(heap, numbers),
@@ -41,7 +38,7 @@ pub fn speakers_of(
     channel: Channel,
     all: &[Spoken],
 ) -> Result<Vec<Speaker>, AllocError>
-    ensures { λ r. ⌜ made r (λ v. Each (Says (size (settings channel))) (now (all .entry)) (vec-items v)) ⌝ }
+    ensures { IfOk result (λ v. Each (Says (size (settings channel))) all.now v.items) }
 {
     let mut speakers = Vec::new(heap);
     for spoken in all {
@@ -54,7 +51,7 @@ pub fn speakers_of(
 
 // The speakers' numbers, in their order.
 pub fn numbers_of(heap: Global, speakers: &[Speaker]) -> Result<Vec<u32>, AllocError>
-    ensures { λ r. ⌜ made r (λ v. vec-items v ≡ map numberIn (now (speakers .entry))) ⌝ }
+    ensures { IfOk result (λ v. v.items ≡ map number_in speakers.now) }
 {
     let mut numbers = Vec::new(heap);
     for speaker in speakers {

@@ -1,17 +1,16 @@
 // Numbers as they were written, and as the calls of channels and frames take them.
-ghost use Prim.Native.Nat.{_<_};
-ghost use Rattle·channels.specs.Settings.{Made};
-ghost use Rattle·channels.specs.Valid.{Valid};
-ghost use Rattle·faults.specs.declared.fault.Fault.the-variants.{Channel as FaultChannel};
-ghost use Rattle·ice_speakers·specs.Wide.{narrow};
-ghost use Rattle·std.specs.Results.{Cases};
-ghost use mathlib.Core.Path.{_≡_};
+ghost use Rattle.std.specs.Prelude.{◌≡◌, ◌<◌, MatchResult};
+ghost use Rattle.channels.specs.Settings.{Made};
+ghost use Rattle.channels.specs.Valid.{Valid};
+ghost use Rattle.faults.specs.declared.fault.Fault.TheVariants.{Channel as FaultChannel};
+ghost use Rattle.ice_speakers.specs.Wide.{narrow};
+
 use channels::Channel;
 use faults::Fault;
 
 // The channel with these numbers, or `Fault::Channel` where there is none with a k below 256, which a channel's is.
 pub fn channel_of(q: u64, d: u64, k: u64) -> Result<Channel, Fault>
-    ensures { λ r. ⌜ Cases r (λ c. Made c q d k) (λ e. (e ≡ FaultChannel) × (Valid q d k → k < 256 → ⊥)) ⌝ }
+    ensures { MatchResult result (λ c. Made c q d k) (λ e. (e ≡ FaultChannel) × (Valid q d k → k < 256 → ⊥)) }
 {
     match (u8::try_from(q), u8::try_from(d), u8::try_from(k)) {
         (Ok(q), Ok(d), Ok(k)) => Channel::new(q, d, k),
@@ -22,7 +21,7 @@ pub fn channel_of(q: u64, d: u64, k: u64) -> Result<Channel, Fault>
 // The number, or the widest of 32 bits for a wider one, which is refused as that would be:
 // no channel has so many senders, and the numbers of a message are below 2^30.
 pub fn narrowed(n: u64) -> u32
-    ensures { λ r. ⌜ r ≡ narrow n ⌝ }
+    ensures { result ≡ narrow n }
 {
     match u32::try_from(n) {
         Ok(n) => n,

@@ -1,15 +1,11 @@
 -- What the words of a command line ask for.
 -- AsksHelp, Asked. Assumes nothing.
-use mathlib.Core.List.{List}
-use Prim.Native.Nat.{ℕ}
-use lib.Chars.{codes}
-use Rattle·std.specs.shelf.Lists.{Has}
-use Rattle·std.specs.declared.result.Result.{Result}
-use Rattle·std.specs.declared.result.Result.the-variants.{Ok, Err}
-use Rattle·ice_words·specs.Frames.{FrameIn}
-use Rattle·ice_words·specs.declared.misuse.Misuse.{Misuse}
-use Rattle·ice_words·specs.declared.request.Request.{Request}
-use Rattle·ice_words·specs.declared.request.Request.the-variants.{Help, Frame}
+use Rattle.std.specs.Prelude.{ℕ, List, Ok, Err, codes, Result}
+use Rattle.std.specs.List.{ContainsAt as Has}
+use Rattle.ice_words.specs.Frames.{FrameIn}
+use Rattle.ice_words.specs.declared.misuse.Misuse.{Misuse}
+use Rattle.ice_words.specs.declared.request.Request.{Request}
+use Rattle.ice_words.specs.declared.request.Request.TheVariants.{Help, Frame}
 
 -- one of the words is `--help`
 abbrev pub AsksHelp : List (List ℕ) → Type 0

@@ -1,12 +1,10 @@
 // What the words of `ice frame` give: the channel's three numbers, and then a word for each sender.
-ghost use Rattle·command_words.specs.Wrong.{wordsIn};
-ghost use Rattle·ice_words·specs.Frames.{FrameIn, NumberAt, NumbersIn, SendersIn};
+ghost use Rattle.command_words.specs.Wrong.{words_in};
+ghost use Rattle.ice_words.specs.Frames.{FrameIn, NumberAt, NumbersIn, SendersIn};
+
 use crate::misuse::Misuse;
-use crate::misuse::MisuseFromAlloc;
-use crate::senders::all_spoken;
-use crate::senders::first_twice;
-use command_words::number;
-use command_words::word_at;
+use crate::senders::{all_spoken, first_twice};
+use command_words::{number, word_at};
 use sender_words::Spoken;
 use std::alloc::Global;
 
@@ -21,7 +19,7 @@ pub struct FrameWords {
 
 // The number in a place of the words.
 fn number_at(texts: &[String], i: usize) -> Result<u64, Misuse>
-    ensures { λ r. ⌜ NumberAt (wordsIn (now (texts .entry))) i r ⌝ }
+    ensures { NumberAt (words_in texts.now) i result }
 {
     let Some(word) = word_at(texts, i) else {
         return Err(Misuse::TooFew);
@@ -34,7 +32,7 @@ fn number_at(texts: &[String], i: usize) -> Result<u64, Misuse>
 
 // The channel's numbers: the second word to the fourth.
 fn numbers_of(texts: &[String]) -> Result<(u64, u64, u64), Misuse>
-    ensures { λ r. ⌜ NumbersIn (wordsIn (now (texts .entry))) r ⌝ }
+    ensures { NumbersIn (words_in texts.now) result }
 {
     let q = number_at(texts, 1)?;
     let d = number_at(texts, 2)?;
@@ -44,7 +42,7 @@ fn numbers_of(texts: &[String]) -> Result<(u64, u64, u64), Misuse>
 
 // The senders: the words from the fifth on, of which there is one at least, and none gives a sender again.
 fn senders_of(heap: Global, texts: &[String]) -> Result<Vec<Spoken>, Misuse>
-    ensures { λ r. ⌜ SendersIn (wordsIn (now (texts .entry))) r ⌝ }
+    ensures { SendersIn (words_in texts.now) result }
 {
     if texts.len() < 5 {
         return Err(Misuse::TooFew);
@@ -58,7 +56,7 @@ fn senders_of(heap: Global, texts: &[String]) -> Result<Vec<Spoken>, Misuse>
 
 // What the words give after `frame`, or which of them is wrong.
 pub fn frame_of(heap: Global, texts: &[String]) -> Result<FrameWords, Misuse>
-    ensures { λ r. ⌜ FrameIn (wordsIn (now (texts .entry))) r ⌝ }
+    ensures { FrameIn (words_in texts.now) result }
 {
     let Some(command) = word_at(texts, 0) else {
         return Err(Misuse::Nothing);

@@ -1,16 +1,12 @@
 // What is told of words that ask for nothing: which word is wrong, and what is wanted.
 // And how the program is used.
-ghost use Rattle·command_words.specs.Wrong.{Told, wordsIn};
-ghost use Rattle·ice_words·specs.Misuses.{causeOf, misuseAt, placeOf};
-ghost use Rattle·ice_words·specs.declared.misuse.Misuse.the-variants.{Memory};
-ghost use Rattle·std.specs.Of.String.{string-bytes};
-ghost use Rattle·std.specs.Vec.{made};
-ghost use lib.Chars.{codes};
-ghost use mathlib.Core.Path.{_≡_};
+ghost use Rattle.command_words.specs.Wrong.{Told, words_in};
+ghost use Rattle.ice_words.specs.Misuses.{cause_of, misuseAt, place_of};
+ghost use Rattle.ice_words.specs.declared.misuse.Misuse.TheVariants.{Memory};
+ghost use Rattle.std.specs.Prelude.{◌≡◌, IfOk, string_bytes, codes};
+
 use sender_words::Wrong;
-use std::alloc::AllocError;
-use std::alloc::Global;
-use std::alloc::Refused;
+use std::alloc::{AllocError, AllocFailed, Global};
 
 pub const USAGE: &str = "ice frame Q D K NUMBER[=A,B,..].. [--raw]
     Who speaks in one frame of the channel with these q, d and k, what is heard in each slot of it,
@@ -40,18 +36,18 @@ pub enum Misuse {
     Memory,
 }
 
-pub impl From<AllocError> for Misuse as MisuseFromAlloc {
-    ghost converts = { λ _ r. r ≡ Memory };
+impl From<AllocError> for Misuse {
+    ghost from_gives = { λ _ r. r ≡ Memory };
 
     fn from(_e: AllocError) -> Misuse {
         Misuse::Memory
     }
 }
 
-pub impl<T: Drop> From<Refused<T>> for Misuse as MisuseFromRefused {
-    ghost converts = { λ _ r. r ≡ Memory };
+impl<T: Drop> From<AllocFailed<T>> for Misuse {
+    ghost from_gives = { λ _ r. r ≡ Memory };
 
-    fn from(_e: Refused<T>) -> Misuse {
+    fn from(_e: AllocFailed<T>) -> Misuse {
         Misuse::Memory
     }
 }
@@ -59,7 +55,7 @@ pub impl<T: Drop> From<Refused<T>> for Misuse as MisuseFromRefused {
 impl Misuse {
     // Why the word in a place gives no sender.
     pub fn at(i: usize, wrong: Wrong) -> Misuse
-        ensures { λ r. ⌜ r ≡ misuseAt i wrong ⌝ }
+        ensures { result ≡ misuseAt i wrong }
     {
         match wrong {
             Wrong::NoSender => Misuse::NoSender(i),
@@ -70,7 +66,7 @@ impl Misuse {
 
     // The place of the word that is wrong, from 0.
     fn place(self) -> Option<usize>
-        ensures { λ r. ⌜ r ≡ placeOf self ⌝ }
+        ensures { result ≡ place_of self }
     {
         match self {
             Misuse::Unknown => Some(0),
@@ -82,7 +78,7 @@ impl Misuse {
 
     // What is wrong, and what is wanted.
     fn cause(self) -> &'static str
-        ensures { λ r. ⌜ now r ≡ causeOf self ⌝ }
+        ensures { result.now ≡ cause_of self }
     {
         match self {
             Misuse::Nothing => "no words; --help tells which are wanted",
@@ -99,7 +95,7 @@ impl Misuse {
 
 // The line for the user, with the word that is wrong where there is one.
 pub fn told(heap: Global, misuse: Misuse, texts: &[String]) -> Result<String, AllocError>
-    ensures { λ r. ⌜ made r (λ s. Told (codes "ice") (wordsIn (now (texts .entry))) (placeOf misuse) (causeOf misuse) (string-bytes s)) ⌝ }
+    ensures { IfOk result (λ s. Told (codes "ice") (words_in texts.now) (place_of misuse) (cause_of misuse) (string_bytes s)) }
 {
     command_words::told(heap, "ice", texts, misuse.place(), misuse.cause())
 }

@@ -1,9 +1,9 @@
 // What the arguments ask for: help, wherever `--help` stands among them, or a frame.
-ghost use Rattle·command_words.specs.Wrong.{wordsIn};
-ghost use Rattle·ice_words·specs.Asked.{Asked, AsksHelp};
-ghost use Rattle·std.specs.Orderings.{Decides};
-use crate::frame_words::FrameWords;
-use crate::frame_words::frame_of;
+ghost use Rattle.command_words.specs.Wrong.{words_in};
+ghost use Rattle.ice_words.specs.Asked.{Asked, AsksHelp};
+ghost use Rattle.std.specs.Prelude.{Decides};
+
+use crate::frame_words::{FrameWords, frame_of};
 use crate::misuse::Misuse;
 use std::alloc::Global;
 
@@ -15,7 +15,7 @@ pub enum Request {
 
 // Whether one of the words is `--help`.
 fn asks_help(texts: &[String]) -> bool
-    ensures { λ r. ⌜ Decides r (AsksHelp (wordsIn (now (texts .entry)))) ⌝ }
+    ensures { Decides result (AsksHelp (words_in texts.now)) }
 {
     for text in texts {
         if text.as_str() == "--help" {
@@ -27,7 +27,7 @@ fn asks_help(texts: &[String]) -> bool
 
 // What the words ask for, or why they ask for nothing. `--help` among them gives help, whatever the others are.
 pub fn read_words(heap: Global, texts: &[String]) -> Result<Request, Misuse>
-    ensures { λ r. ⌜ Asked (wordsIn (now (texts .entry))) r ⌝ }
+    ensures { Asked (words_in texts.now) result }
 {
     if asks_help(texts) {
         return Ok(Request::Help);

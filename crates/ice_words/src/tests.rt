@@ -1,7 +1,7 @@
 // Words that are refused, and words that ask for a frame.
 use super::*;
 use std::alloc::Global;
-use std::test::*;
+use std::test::Fail;
 
 fn texts(heap: Global, words: &[&str]) -> Result<Vec<String>, Fail> {
     let mut all = Vec::new(heap);
@@ -12,20 +12,24 @@ fn texts(heap: Global, words: &[&str]) -> Result<Vec<String>, Fail> {
 }
 
 #[test]
-fn refused(rt: LibcRuntime) -> Result<(), Fail> {
+fn refused(rt: HostRuntime) -> Result<(), Fail> {
     let words = texts(rt.alloc(), &["frame", "5", "2", "2", "7", "17", "+7=1,2,3"])?;
     let Err(misuse) = read_words(rt.alloc(), &words) else {
         return Err(Fail::new("it asks for something"));
     };
     let line = told(rt.alloc(), misuse, &words)?;
-    check(line.as_str() == "ice: +7=1,2,3: a sender that is given twice")
+    assert!(rt; line.as_str() == "ice: +7=1,2,3: a sender that is given twice");
+    Ok(())
 }
 
 #[test]
-fn asked_for(rt: LibcRuntime) -> Result<(), Fail> {
+fn asked_for(rt: HostRuntime) -> Result<(), Fail> {
     let words = texts(rt.alloc(), &["frame", "5", "2", "2", "7=1,2,4", "300"])?;
     match read_words(rt.alloc(), &words) {
-        Ok(Request::Frame(frame)) => check(frame.q == 5 && frame.spoken.len() == 2),
+        Ok(Request::Frame(frame)) => {
+            assert!(rt; frame.q == 5 && frame.spoken.len() == 2);
+            Ok(())
+        },
         _ => Err(Fail::new("it asks for no frame")),
     }
 }

@@ -1,18 +1,10 @@
 // Frames of three speakers, which are k + 1, and of four, which are too many, and speakers that cannot speak.
 use channels::Channel;
 use faults::Fault;
-use faults::fault::FaultDebug;
-use faults::fault::FaultPartialEq;
-use frames::Frame;
-use frames::Slot;
-use frames::Speaker;
-use frames::slot::SlotDebug;
-use frames::slot::SlotPartialEq;
+use frames::{Frame, Slot, Speaker};
 use messages::Reading;
-use messages::listen::ReadingDebug;
-use messages::listen::ReadingPartialEq;
 use std::alloc::Global;
-use std::test::*;
+use std::test::Fail;
 
 fn speakers(heap: Global, given: &[(u32, [u32; 3])]) -> Result<Vec<Speaker>, Fail> {
     let mut all = Vec::new(heap);
@@ -26,7 +18,7 @@ fn speakers(heap: Global, given: &[(u32, [u32; 3])]) -> Result<Vec<Speaker>, Fai
 
 // Each of three is alone in four parts, and read.
 #[test]
-fn three_are_read(rt: LibcRuntime) -> Result<(), Fail> {
+fn three_are_read(rt: HostRuntime) -> Result<(), Fail> {
     let heap = rt.alloc();
     let three = speakers(
         heap,
@@ -37,24 +29,24 @@ fn three_are_read(rt: LibcRuntime) -> Result<(), Fail> {
         ],
     )?;
     let frame = Frame::hear(heap, Channel::new(5, 2, 2)?, &three)?;
-    check_eq(frame.slot(0, 2), Some(Slot::Noise))?;
-    check_eq(
+    assert_eq!(rt; frame.slot(0, 2), Some(Slot::Noise));
+    assert_eq!(rt;
         frame.slot(1, 3),
         Some(Slot::One {
             sender: 7,
             word: 11,
-        }),
-    )?;
-    check_eq(frame.slot(1, 1), Some(Slot::Silence))?;
-    check_eq((frame.slot(5, 0), frame.slot(0, 5)), (None, None))?;
+        })
+    );
+    assert_eq!(rt; frame.slot(1, 1), Some(Slot::Silence));
+    assert_eq!(rt; (frame.slot(5, 0), frame.slot(0, 5)), (None, None));
     for speaker in three.iter() {
         let mut message = [0; 3];
-        check_eq(
+        assert_eq!(rt;
             frame.read(heap, speaker.number, &mut message)?,
-            Reading::Message { words: 4, off: 0 },
-        )?;
+            Reading::Message { words: 4, off: 0 }
+        );
         for (a, b) in message.iter().zip(speaker.message.iter()) {
-            check_eq(*a, *b)?;
+            assert_eq!(rt; *a, *b);
         }
     }
     Ok(())
@@ -62,7 +54,7 @@ fn three_are_read(rt: LibcRuntime) -> Result<(), Fail> {
 
 // Of four, one is alone in two parts only: too few for three numbers.
 #[test]
-fn of_four_one_is_not_read(rt: LibcRuntime) -> Result<(), Fail> {
+fn of_four_one_is_not_read(rt: HostRuntime) -> Result<(), Fail> {
     let heap = rt.alloc();
     let four = speakers(
         heap,
@@ -75,18 +67,19 @@ fn of_four_one_is_not_read(rt: LibcRuntime) -> Result<(), Fail> {
     )?;
     let frame = Frame::hear(heap, Channel::new(5, 2, 2)?, &four)?;
     let mut message = [9; 3];
-    check_eq(
+    assert_eq!(rt;
         frame.read(heap, 5, &mut message)?,
-        Reading::Message { words: 4, off: 0 },
-    )?;
-    check_eq(frame.read(heap, 0, &mut message)?, Reading::TooFew(2))?;
-    check_eq(message[2], 0)?;
-    check_eq(frame.words(heap, 1)?.len(), 0)
+        Reading::Message { words: 4, off: 0 }
+    );
+    assert_eq!(rt; frame.read(heap, 0, &mut message)?, Reading::TooFew(2));
+    assert_eq!(rt; message[2], 0);
+    assert_eq!(rt; frame.words(heap, 1)?.len(), 0);
+    Ok(())
 }
 
 // The first speaker that cannot speak gives its fault.
 #[test]
-fn some_cannot_speak(rt: LibcRuntime) -> Result<(), Fail> {
+fn some_cannot_speak(rt: HostRuntime) -> Result<(), Fail> {
     let heap = rt.alloc();
     let channel = Channel::new(5, 2, 2)?;
     for (number, last, fault) in [
@@ -100,10 +93,11 @@ fn some_cannot_speak(rt: LibcRuntime) -> Result<(), Fail> {
         )?;
         match Frame::hear(heap, channel, &some) {
             Ok(_) => return Err(Fail::new("it speaks")),
-            Err(f) => check_eq(f, fault)?,
+            Err(f) => assert_eq!(rt; f, fault),
         }
     }
     let mut frame = Frame::silent(heap, channel)?;
-    check_eq(frame.speak(3, &[1, 2]), Err(Fault::Message))?;
-    check_eq(frame.slot(0, 3), Some(Slot::Silence))
+    assert_eq!(rt; frame.speak(3, &[1, 2]), Err(Fault::Message));
+    assert_eq!(rt; frame.slot(0, 3), Some(Slot::Silence));
+    Ok(())
 }

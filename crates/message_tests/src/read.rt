@@ -1,13 +1,7 @@
 // Readings at every border, of words written out and of words spoilt one after the other.
 use channels::Channel;
-use faults::fault::FaultDebug;
-use messages::PartWord;
-use messages::Reading;
-use messages::listen::ReadingDebug;
-use messages::listen::ReadingPartialEq;
-use messages::read;
-use messages::word_at;
-use std::test::*;
+use messages::{PartWord, Reading, read, word_at};
+use std::test::Fail;
 
 // How many words are heard, the words with their parts, and what is read of three numbers on the channel 5 2 2 and left in the lent memory.
 const READINGS: [(usize, [(u8, u32); 5], Reading, [u32; 3]); 19] = [
@@ -143,7 +137,7 @@ const READINGS: [(usize, [(u8, u32); 5], Reading, [u32; 3]); 19] = [
 ];
 
 #[test]
-fn readings() -> Result<(), Fail> {
+fn readings(rt: HostRuntime) -> Result<(), Fail> {
     let channel = Channel::new(5, 2, 2)?;
     for (count, heard, reading, left) in READINGS {
         let mut words = [PartWord { part: 0, value: 0 }; 5];
@@ -151,23 +145,24 @@ fn readings() -> Result<(), Fail> {
             *word = PartWord { part, value };
         }
         let mut message = [7, 7, 7];
-        check(count <= 5)?;
-        check_eq(read(channel, &words[0..count], &mut message), reading)?;
-        check_eq(message, left)?;
+        assert!(rt; count <= 5);
+        assert_eq!(rt; read(channel, &words[0..count], &mut message), reading);
+        assert_eq!(rt; message, left);
     }
     Ok(())
 }
 
 #[test]
-fn one_number() -> Result<(), Fail> {
+fn one_number(rt: HostRuntime) -> Result<(), Fail> {
     let channel = Channel::new(3, 2, 2)?;
     let words = [PartWord { part: 2, value: 77 }];
     let mut message = [0];
-    check_eq(
+    assert_eq!(rt;
         read(channel, &words, &mut message),
-        Reading::Message { words: 1, off: 0 },
-    )?;
-    check_eq(message, [77])
+        Reading::Message { words: 1, off: 0 }
+    );
+    assert_eq!(rt; message, [77]);
+    Ok(())
 }
 
 // The words of a message of three numbers in the parts 0 to 12, of which so many are wrong from a place on.
@@ -190,7 +185,7 @@ fn spoilt(from: usize, wrong: usize) -> [PartWord; 13] {
 
 // Of four to thirteen words, none to five wrong, the first ones or the last ones: read where no more are wrong than half of those above three, and else doubtful.
 #[test]
-fn words_off() -> Result<(), Fail> {
+fn words_off(rt: HostRuntime) -> Result<(), Fail> {
     let channel = Channel::new(13, 2, 5)?;
     for count in 4..14 {
         for wrong in 0..6 {
@@ -203,17 +198,17 @@ fn words_off() -> Result<(), Fail> {
                     continue;
                 }
                 if wrong <= spare {
-                    check_eq(
+                    assert_eq!(rt;
                         reading,
                         Reading::Message {
                             words: count,
                             off: wrong,
-                        },
-                    )?;
-                    check_eq(message, [10, 1_073_741_823, 7])?;
+                        }
+                    );
+                    assert_eq!(rt; message, [10, 1_073_741_823, 7]);
                 } else {
-                    check_eq(reading, Reading::Doubtful)?;
-                    check_eq(message, [0, 0, 0])?;
+                    assert_eq!(rt; reading, Reading::Doubtful);
+                    assert_eq!(rt; message, [0, 0, 0]);
                 }
             }
         }
@@ -223,7 +218,7 @@ fn words_off() -> Result<(), Fail> {
 
 // A message of 251 numbers from the words of all 251 parts, the highest part first.
 #[test]
-fn most_numbers() -> Result<(), Fail> {
+fn most_numbers(rt: HostRuntime) -> Result<(), Fail> {
     let channel = Channel::new(251, 1, 0)?;
     let message = [1_073_741_823; 251];
     let mut words = [PartWord { part: 0, value: 0 }; 251];
@@ -236,9 +231,10 @@ fn most_numbers() -> Result<(), Fail> {
         };
     }
     let mut left = [0; 251];
-    check_eq(
+    assert_eq!(rt;
         read(channel, &words, &mut left),
-        Reading::Message { words: 251, off: 0 },
-    )?;
-    check(left == message)
+        Reading::Message { words: 251, off: 0 }
+    );
+    assert!(rt; left == message);
+    Ok(())
 }

@@ -1,24 +1,20 @@
 // Words of worked messages, and the polynomials through them.
-use polynomials::PartWord;
-use polynomials::interpolate;
-use polynomials::word_at;
-use polynomials::words_of;
-use std::test::*;
+use polynomials::{PartWord, interpolate, word_at, words_of};
 
 #[test]
-fn words_of_a_message() -> Result<(), Fail> {
+fn words_of_a_message(rt: HostRuntime) {
     let message = [10, 1, 0];
     let mut words = [0; 5];
     words_of(&message, &mut words);
-    check_eq(words, [10, 11, 12, 13, 14])?;
-    check_eq(word_at(&message, 4), 14)?;
-    check_eq(word_at(&[5, 1_073_741_823], 250), 2_147_483_527)?;
-    check_eq(word_at(&[], 3), 0)
+    assert_eq!(rt; words, [10, 11, 12, 13, 14]);
+    assert_eq!(rt; word_at(&message, 4), 14);
+    assert_eq!(rt; word_at(&[5, 1_073_741_823], 250), 2_147_483_527);
+    assert_eq!(rt; word_at(&[], 3), 0);
 }
 
 // Through the words of all 251 parts, the highest part first; and not through a part twice, nor through fewer words than values.
 #[test]
-fn polynomials_through_words() -> Result<(), Fail> {
+fn polynomials_through_words(rt: HostRuntime) {
     let message = [2_147_483_646; 251];
     let mut words = [PartWord { part: 0, value: 0 }; 251];
     let mut part: u8 = 251;
@@ -30,10 +26,10 @@ fn polynomials_through_words() -> Result<(), Fail> {
         };
     }
     let mut values = [0; 251];
-    check(interpolate(&words, &mut values) && values == message)?;
+    assert!(rt; interpolate(&words, &mut values) && values == message);
     words[7].part = 0;
     let mut values = [3; 251];
-    check(!interpolate(&words, &mut values) && values[0] == 3)?;
+    assert!(rt; !interpolate(&words, &mut values) && values[0] == 3);
     let mut fewer = [5; 250];
-    check(!interpolate(&words, &mut fewer) && fewer[0] == 5)
+    assert!(rt; !interpolate(&words, &mut fewer) && fewer[0] == 5);
 }

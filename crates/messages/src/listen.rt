@@ -1,22 +1,17 @@
 // What a listener makes of the words heard of one sender, whatever they are: it works the message out from the first words, and the others test it;
 // where too many are off it, it looks for a message that few enough are off.
-ghost use Prim.Native.Nat.{_<_, _≤_};
-ghost use Rattle·channels.specs.Settings.{settings};
-ghost use Rattle·messages·specs.Made.{Answer, Zeros, faultOf};
-ghost use Rattle·messages·specs.Seeking.{Sought};
-ghost use Rattle·polynomials.specs.Heard.{wordsIn};
-ghost use Rattle·readings.specs.Reads.{spare as spareOf};
-ghost use Rattle·speakall.specs.Code.{soundIn};
-ghost use lib.Dec.{T};
-ghost use lib.ListN.{length};
-ghost use mathlib.Core.Path.{_≡_};
-use crate::seek::attempt;
-use crate::seek::seek;
-use crate::seek::spare;
+ghost use Rattle.std.specs.Prelude.{◌≡◌, ◌<◌, ◌≤◌, T, length};
+ghost use Rattle.channels.specs.Settings.{settings};
+ghost use Rattle.messages.specs.Made.{Answer, Zeros, fault_of};
+ghost use Rattle.messages.specs.Seeking.{Sought};
+ghost use Rattle.polynomials.specs.Heard.{words_in};
+ghost use Rattle.readings.specs.Reads.{spare as spare_of};
+ghost use Rattle.speakall.specs.Code.{sound_in};
+
+use crate::seek::{attempt, seek, spare};
 use channels::Channel;
 use faults::Fault;
-use polynomials::PartWord;
-use polynomials::is_sound;
+use polynomials::{PartWord, is_sound};
 
 // What the words of one sender come to.
 #[derive(Clone, Copy, PartialEq, Eq, Debug)]
@@ -32,7 +27,7 @@ pub enum Reading {
 impl Reading {
     // The fault that a listener tells in the place of a message.
     pub fn fault(self) -> Option<Fault>
-        ensures { λ r. ⌜ r ≡ faultOf self ⌝ }
+        ensures { result ≡ fault_of self }
     {
         match self {
             Reading::TooFew(_) => Some(Fault::TooFew),
@@ -44,16 +39,16 @@ impl Reading {
 
 // Makes every number 0.
 fn clear(message: &mut [u32])
-    ensures { λ _. ⌜ Zeros (now (message .exit)) ⌝ }
+    ensures { Zeros message.new }
 {
     message.fill(0);
 }
 
 // Finds the message of sound words, s or more: from the first s words, and else, if any may be off, by leaving out blocks of words.
 fn find(words: &[PartWord], message: &mut [u32]) -> Option<usize>
-    requires sound { ⌜ T (soundIn 251 (wordsIn (now words))) ⌝ }
-    requires enough { ⌜ length (now message) ≤ length (now words) ⌝ }
-    ensures { λ r. ⌜ Sought (length (now (message .entry))) (spareOf (length (now (words .entry))) (length (now (message .entry)))) (now (words .entry)) r (now (message .exit)) ⌝ }
+    requires sound { T (sound_in 251 (words_in words.now)) }
+    requires enough { length message.old ≤ length words.now }
+    ensures { Sought (length message.old) (spare_of (length words.now) (length message.old)) words.now result message.new }
 {
     let size = message.len();
     let spare = spare(words.len(), size);
@@ -68,8 +63,8 @@ fn find(words: &[PartWord], message: &mut [u32]) -> Option<usize>
 
 // The reading of words with parts below `parts`.
 fn decide(parts: u8, words: &[PartWord], message: &mut [u32]) -> Reading
-    requires { ⌜ parts < 252 ⌝ }
-    ensures { λ r. ⌜ Answer parts (length (now (message .entry))) (wordsIn (now (words .entry))) r (now (message .exit)) ⌝ }
+    requires { parts < 252 }
+    ensures { Answer parts (length message.old) (words_in words.now) result message.new }
 {
     if words.len() < message.len() {
         clear(message);
@@ -95,7 +90,7 @@ fn decide(parts: u8, words: &[PartWord], message: &mut [u32]) -> Reading
 // One polynomial through s words, in O(s²) products, where all words lie on it or few enough are off; else C(n, e) more at most, where e words may be off
 // and the words make n blocks.
 pub fn read(channel: Channel, words: &[PartWord], message: &mut [u32]) -> Reading
-    ensures { λ r. ⌜ Answer (settings channel .q) (length (now (message .entry))) (wordsIn (now (words .entry))) r (now (message .exit)) ⌝ }
+    ensures { Answer (settings channel).q (length message.old) (words_in words.now) result message.new }
 {
     decide(channel.parts(), words, message)
 }

@@ -2,33 +2,28 @@
 // Words that lie on such a message are still s or more when any e are left out, and the polynomial through s of them is the message.
 // So sets of words are left out. Not of single words, which are C(w, e) sets, but of blocks of (w - s) / e words: any e words lie in some e blocks,
 // and without any e blocks s words or more are left. These are C(n, e) sets for n blocks: 70 instead of 23,751 for s = 11 and w = 29.
-ghost use Prim.Native.Nat.{_+_, _*_, _^_, _<_, _≤_};
-ghost use Rattle·messages·specs.Seeking.{NoneOn, Sought, Tried, near as nearOf};
-ghost use Rattle·polynomials.specs.Heard.{wordsIn};
-ghost use Rattle·readings.specs.Blocks.{Fails, endBlock, firstBlock, isAmong, left as leftIn};
-ghost use Rattle·readings.specs.Reads.{spare as spareOf};
-ghost use Rattle·speakall.specs.Code.{soundIn};
-ghost use lib.Dec.{T};
-ghost use lib.ListN.{length, take};
-ghost use mathlib.Core.Path.{_≡_};
-use polynomials::PartWord;
-use polynomials::interpolate;
-use polynomials::is_message;
-use polynomials::off;
+ghost use Rattle.std.specs.Prelude.{◌≡◌, ◌+◌, ◌*◌, ◌^◌, ◌<◌, ◌≤◌, T, length, take};
+ghost use Rattle.messages.specs.Seeking.{NoneOn, Sought, Tried, near as nearOf};
+ghost use Rattle.polynomials.specs.Heard.{words_in};
+ghost use Rattle.readings.specs.Blocks.{Fails, end_block, first_block, is_among, left as leftIn};
+ghost use Rattle.readings.specs.Reads.{spare as spare_of};
+ghost use Rattle.speakall.specs.Code.{sound_in};
+
+use polynomials::{PartWord, interpolate, is_message, off};
 
 // No frame has more parts than this, and so no sender more words.
 const PARTS: usize = 251;
 
 // So many words may be off, if a message of `size` numbers is to be read from so many: half of those above the size, at most 4.
 pub fn spare(words: usize, size: usize) -> usize
-    ensures { λ r. ⌜ r ≡ spareOf words size ⌝ }
+    ensures { result ≡ spare_of words size }
 {
     (words.saturating_sub(size) / 2).min(4)
 }
 
 // How many words are off these numbers, if they are a message's and at most `spare` are.
 fn near(message: &[u32], words: &[PartWord], spare: usize) -> Option<usize>
-    ensures { λ r. ⌜ r ≡ nearOf spare (now (words .entry)) (now (message .entry)) ⌝ }
+    ensures { result ≡ nearOf spare words.now message.now }
 {
     if !is_message(message) {
         return None;
@@ -44,7 +39,7 @@ pub fn attempt(
     spare: usize,
     message: &mut [u32],
 ) -> Option<usize>
-    ensures { λ r. ⌜ Tried (length (now (message .entry))) spare (now (words .entry)) (NoneOn (length (now (message .entry))) spare (now (words .entry)) (now (kept .entry))) r (now (message .exit)) ⌝ }
+    ensures { Tried (length message.old) spare words.now (NoneOn (length message.old) spare words.now kept.now) result message.new }
 {
     if !interpolate(kept, message) {
         return None;
@@ -54,7 +49,7 @@ pub fn attempt(
 
 // Whether a block is one of those left out.
 fn is_out(block: usize, out: &[usize]) -> bool
-    ensures { λ r. ⌜ r ≡ isAmong block (now (out .entry)) ⌝ }
+    ensures { result ≡ is_among block out.now }
 {
     for other in out {
         if block == *other {
@@ -66,9 +61,9 @@ fn is_out(block: usize, out: &[usize]) -> bool
 
 // Copies the first words that are in none of the blocks left out, as many as there is room for.
 fn keep(words: &[PartWord], block: usize, out: &[usize], room: &mut [PartWord])
-    requires block { ⌜ 0 < block ⌝ }
-    requires enough { ⌜ length (now room) ≤ length (leftIn block (now out) 0 (now words)) ⌝ }
-    ensures { λ _. ⌜ now (room .exit) ≡ take (length (now (room .entry))) (leftIn block (now (out .entry)) 0 (now (words .entry))) ⌝ }
+    requires block { 0 < block }
+    requires enough { length room.old ≤ length (leftIn block out.now 0 words.now) }
+    ensures { room.new ≡ take (length room.old) (leftIn block out.now 0 words.now) }
 {
     let mut count = 0;
     for i in 0..words.len() {
@@ -91,11 +86,11 @@ fn without(
     spare: usize,
     message: &mut [u32],
 ) -> Option<usize>
-    requires block { ⌜ 0 < block ⌝ }
-    requires sound { ⌜ T (soundIn 251 (wordsIn (now words))) ⌝ }
-    requires few { ⌜ length (now message) ≤ 251 ⌝ }
-    requires enough { ⌜ length (now message) ≤ length (leftIn block (now out) 0 (now words)) ⌝ }
-    ensures { λ r. ⌜ Tried (length (now (message .entry))) spare (now (words .entry)) (Fails (length (now (message .entry))) spare (wordsIn (now (words .entry))) block (now (out .entry))) r (now (message .exit)) ⌝ }
+    requires block { 0 < block }
+    requires sound { T (sound_in 251 (words_in words.now)) }
+    requires few { length message.old ≤ 251 }
+    requires enough { length message.old ≤ length (leftIn block out.now 0 words.now) }
+    ensures { Tried (length message.old) spare words.now (Fails (length message.old) spare (words_in words.now) block out.now) result message.new }
 {
     let size = message.len();
     let mut room = [PartWord { part: 0, value: 0 }; PARTS];
@@ -106,26 +101,26 @@ fn without(
 
 // The first block of a loop over the blocks below `above`; where fewer than `level` blocks are left out, the loop goes through `above` only.
 fn first(spare: usize, level: usize, above: usize) -> usize
-    ensures { λ r. ⌜ r ≡ firstBlock spare level above ⌝ }
+    ensures { result ≡ first_block spare level above }
 {
     if spare < level { above } else { 0 }
 }
 
 // The end of that loop.
 fn end(spare: usize, level: usize, above: usize) -> usize
-    requires { ⌜ above < 2 ^ 63 ⌝ }
-    ensures { λ r. ⌜ r ≡ endBlock spare level above ⌝ }
+    requires { above < 2 ^ 63 }
+    ensures { result ≡ end_block spare level above }
 {
     if spare < level { above + 1 } else { above }
 }
 
 // Tries the words left without each set of `spare` blocks, until a message is found: C(n, spare) polynomials at most, each in O(s²) products.
 pub fn seek(words: &[PartWord], spare: usize, message: &mut [u32]) -> Option<usize>
-    requires sound { ⌜ T (soundIn 251 (wordsIn (now words))) ⌝ }
-    requires some { ⌜ 0 < spare ⌝ }
-    requires few { ⌜ spare ≤ 4 ⌝ }
-    requires enough { ⌜ 2 * spare + length (now message) ≤ length (now words) ⌝ }
-    ensures { λ r. ⌜ Sought (length (now (message .entry))) spare (now (words .entry)) r (now (message .exit)) ⌝ }
+    requires sound { T (sound_in 251 (words_in words.now)) }
+    requires some { 0 < spare }
+    requires few { spare ≤ 4 }
+    requires enough { 2 * spare + length message.old ≤ length words.now }
+    ensures { Sought (length message.old) spare words.now result message.new }
 {
     let size = message.len();
     let block = (words.len() - size) / spare;

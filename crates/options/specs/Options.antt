@@ -1,20 +1,18 @@
 -- Options among the words of a command line, each word by its bytes.
--- isGiven, keptWord, without. Assumes nothing.
-use mathlib.Core.Bool.{Bool, false, cond, _||_}
-use mathlib.Core.List.{List, [], _∷_, _++_}
-use Prim.Native.Nat.{ℕ}
-use Rattle·std.specs.shelf.Text.{sameBytes}
+-- is_given, kept_word, without. Assumes nothing.
+use Rattle.std.specs.Prelude.{ℕ, Bool, false, cond, ◌||◌, List, [], ◌∷◌, ◌++◌}
+use Rattle.std.specs.Str.{bytes_eq}
 
 -- the option stands among the words
-unfoldable pub isGiven : (option : List ℕ) → List (List ℕ) → Bool
-isGiven o [] = false
-isGiven o (w ∷ ws) = sameBytes w o || isGiven o ws
+unfoldable pub is_given : (option : List ℕ) → List (List ℕ) → Bool
+is_given o [] = false
+is_given o (w ∷ ws) = bytes_eq w o || is_given o ws
 
 -- a word that isn't the option
-abbrev pub keptWord : (option word : List ℕ) → List (List ℕ)
-keptWord o w = cond (sameBytes w o) [] (w ∷ [])
+abbrev pub kept_word : (option word : List ℕ) → List (List ℕ)
+kept_word o w = cond (bytes_eq w o) [] (w ∷ [])
 
 -- the words that aren't the option
 unfoldable pub without : (option : List ℕ) → List (List ℕ) → List (List ℕ)
 without o [] = []
-without o (w ∷ ws) = keptWord o w ++ without o ws
+without o (w ∷ ws) = kept_word o w ++ without o ws

@@ -1,16 +1,15 @@
 // Options, which may stand anywhere among the words of a command line: whether one is given, and the words without it.
-ghost use Rattle·command_words.specs.Wrong.{wordsIn};
-ghost use Rattle·options·specs.Options.{isGiven, keptWord, without};
-ghost use Rattle·std.specs.Of.Vec.{vec-items};
-ghost use Rattle·std.specs.Vec.{made};
-ghost use mathlib.Core.List.{_++_};
-ghost use mathlib.Core.Path.{_≡_};
-use std::alloc::AllocError;
-use std::alloc::Global;
+#![tactic(auto)]
+
+ghost use Rattle.command_words.specs.Wrong.{words_in};
+ghost use Rattle.options.specs.Options.{is_given, kept_word, without};
+ghost use Rattle.std.specs.Prelude.{◌≡◌, ◌++◌, IfOk, OnOk};
+
+use std::alloc::{AllocError, Global};
 
 // Whether the option stands among the words.
 pub fn is_given(option: &str, texts: &[String]) -> bool
-    ensures { λ r. ⌜ r ≡ isGiven (now (option .entry)) (wordsIn (now (texts .entry))) ⌝ }
+    ensures { result ≡ is_given option.now (words_in texts.now) }
 {
     for text in texts {
         if text.as_str() == option {
@@ -22,7 +21,7 @@ pub fn is_given(option: &str, texts: &[String]) -> bool
 
 // Puts a word after the others, unless it is the option.
 fn keep(heap: Global, option: &str, text: &str, words: &mut Vec<String>) -> Result<(), AllocError>
-    ensures { λ r. ⌜ made r (λ _. wordsIn (vec-items (now (words .exit))) ≡ wordsIn (vec-items (now (words .entry))) ++ keptWord (now (option .entry)) (now (text .entry))) ⌝ }
+    ensures { OnOk result (words_in words.new.items ≡ words_in words.old.items ++ kept_word option.now text.now) }
 {
     if text != option {
         words.push(String::from_str(heap, text)?)?;
@@ -32,7 +31,7 @@ fn keep(heap: Global, option: &str, text: &str, words: &mut Vec<String>) -> Resu
 
 // The words without the option, in their order.
 fn others(heap: Global, option: &str, texts: &[String]) -> Result<Vec<String>, AllocError>
-    ensures { λ r. ⌜ made r (λ v. wordsIn (vec-items v) ≡ without (now (option .entry)) (wordsIn (now (texts .entry)))) ⌝ }
+    ensures { IfOk result (λ v. words_in v.items ≡ without option.now (words_in texts.now)) }
 {
     let mut words = Vec::new(heap);
     for text in texts {
@@ -50,7 +49,7 @@ pub struct Sorted {
 
 // Takes an option out of the words of a command line.
 pub fn take_out(heap: Global, option: &str, texts: &[String]) -> Result<Sorted, AllocError>
-    ensures { λ r. ⌜ made r (λ s. (s .given ≡ isGiven (now (option .entry)) (wordsIn (now (texts .entry)))) × (wordsIn (vec-items (s .words)) ≡ without (now (option .entry)) (wordsIn (now (texts .entry))))) ⌝ }
+    ensures { IfOk result (λ s. (s.given ≡ is_given option.now (words_in texts.now)) × (words_in s.words.items ≡ without option.now (words_in texts.now))) }
 {
     let given = is_given(option, texts);
     let words = others(heap, option, texts)?;

@@ -1,16 +1,13 @@
 -- What a reader will still give, and what a piece makes of it.
--- comingOf, Fed. Assumes nothing.
-use mathlib.Core.Path.{_≡_}
-use mathlib.Core.List.{List, _++_}
-use Prim.Native.Nat.{ℕ}
-use lib.ListN.{take}
-use Rattle·records.specs.declared.heard.Heard.{Heard}
-use Rattle·pieces·specs.Coming.{Answer, after, coming}
-use Rattle·pieces·specs.declared.heard_reader.HeardReader.{HeardReader}
+-- coming_of, Fed. Assumes nothing.
+use Rattle.std.specs.Prelude.{◌≡◌, ℕ, List, ◌++◌, take}
+use Rattle.records.specs.declared.heard.Heard.{Heard}
+use Rattle.pieces.specs.Coming.{Answer, after, coming}
+use Rattle.pieces.specs.declared.heard_reader.HeardReader.{HeardReader}
 
-abbrev pub comingOf : HeardReader → (more : List ℕ) → Answer
-comingOf r more = coming (r .phase) (r .byte) (take (r .count) (r .held)) more
+abbrev pub coming_of : HeardReader → (more : List ℕ) → Answer
+coming_of r more = coming r.phase r.byte (take r.count r.held) more
 
 -- a piece gave some records, behind those before; with them the reader gives what it would have given of the piece and all that follows
 abbrev pub Fed : HeardReader → (piece : List ℕ) → (before : List Heard) → HeardReader → (now : List Heard) → Type 0
-Fed r piece before s now = (given : List Heard) × (now ≡ before ++ given) × ((more : List ℕ) → comingOf r (piece ++ more) ≡ after given (comingOf s more))
+Fed r piece before s now = (given : List Heard) × (now ≡ before ++ given) × ((more : List ℕ) → coming_of r (piece ++ more) ≡ after given (coming_of s more))

@@ -1,9 +1,7 @@
 // A reader that is fed in pieces: what it is about to read, and the bytes of a record that is not whole yet.
-ghost use Prim.Native.Nat.{_<_};
-ghost use Rattle·pieces·specs.Waiting.{waits as isWaiting};
-ghost use lib.ListN.{take};
-ghost use mathlib.Core.Bool.{true};
-ghost use mathlib.Core.Path.{_≡_};
+ghost use Rattle.std.specs.Prelude.{◌≡◌, ◌<◌, true, take};
+ghost use Rattle.pieces.specs.Waiting.{waits as is_waiting};
+
 use crate::phase::Phase;
 pub use step::Step;
 
@@ -20,5 +18,5 @@ pub struct HeardReader {
     byte: u64,
     // Fewer than 20 bytes are held, and they are no whole record.
     ghost few: { count < 20 },
-    ghost waits: { isWaiting phase (take count held) ≡ true },
+    ghost waits: { is_waiting phase (take count held) ≡ true },
 }

@@ -1,14 +1,11 @@
 // What the program answers with besides the lines of channels: why there is no channel, and a channel's bytes.
-ghost use Rattle·faults.specs.Faults.{faultText};
-ghost use Rattle·channels.specs.Settings.{settings};
-ghost use Rattle·plan_words·specs.Answers.{bytesOf, wishText};
-ghost use Rattle·std.specs.declared.option.Option.the-variants.{Some};
-ghost use lib.Chars.{codes};
-ghost use mathlib.Core.List.{_++_};
-ghost use mathlib.Core.Path.{_≡_};
+ghost use Rattle.faults.specs.Faults.{fault_text};
+ghost use Rattle.channels.specs.Settings.{settings};
+ghost use Rattle.plan_words.specs.Answers.{bytes_of, wish_text};
+ghost use Rattle.std.specs.Prelude.{◌≡◌, ◌++◌, Some, codes};
+
 use channels::Channel;
 use faults::Fault;
-use faults::fault::FaultDisplay;
 use planning::Wish;
 use std::fmt;
 
@@ -19,8 +16,8 @@ pub struct Refusal {
     pub wish: Wish,
 }
 
-pub impl fmt::Display for Refusal as RefusalDisplay {
-    ghost shown = { λ r. Some (faultText (r .fault) ++ (codes " for " ++ wishText (r .wish))) };
+impl fmt::Display for Refusal {
+    ghost output = { λ r. Some (fault_text r.fault ++ (codes " for " ++ wish_text r.wish)) };
 
     fn fmt<W: fmt::Write>(&self, f: &mut fmt::Formatter<W>) -> fmt::Result {
         let fault = self.fault;
@@ -38,7 +35,7 @@ pub impl fmt::Display for Refusal as RefusalDisplay {
 
 // The channel's record: 1, q, d, k.
 pub fn bytes(channel: Channel) -> [u8; 4]
-    ensures { λ r. ⌜ r ≡ bytesOf (settings channel) ⌝ }
+    ensures { result ≡ bytes_of (settings channel) }
 {
     [1, channel.parts(), channel.digits(), channel.others()]
 }

@@ -1,14 +1,11 @@
 // What is told of words that ask for nothing: which word is wrong, and what is wanted.
 // And how the program is used.
-ghost use Rattle·command_words.specs.Wrong.{Told, wordsIn};
-ghost use Rattle·plan_words·specs.Answers.{causeOf, placeOf};
-ghost use Rattle·std.specs.Of.String.{string-bytes};
-ghost use Rattle·std.specs.Vec.{made};
-ghost use lib.Chars.{codes};
-ghost use mathlib.Core.Path.{_≡_};
+ghost use Rattle.command_words.specs.Wrong.{Told, words_in};
+ghost use Rattle.plan_words.specs.Answers.{cause_of, place_of};
+ghost use Rattle.std.specs.Prelude.{◌≡◌, IfOk, string_bytes, codes};
+
 use crate::request::Misuse;
-use std::alloc::AllocError;
-use std::alloc::Global;
+use std::alloc::{AllocError, Global};
 
 pub const USAGE: &str = "plan SENDERS K NUMBERS
     Of the channels with as many senders or more, in which K others may speak in the same frame, and whose
@@ -26,7 +23,7 @@ Example: plan 9000 9 10
 impl Misuse {
     // The place of the word that is wrong, from 0.
     fn place(self) -> Option<usize>
-        ensures { λ r. ⌜ r ≡ placeOf self ⌝ }
+        ensures { result ≡ place_of self }
     {
         match self {
             Misuse::Unknown(i) | Misuse::NoNumber(i) | Misuse::TooMany(i) => Some(i),
@@ -36,7 +33,7 @@ impl Misuse {
 
     // What is wrong, and what is wanted.
     fn cause(self) -> &'static str
-        ensures { λ r. ⌜ now r ≡ causeOf self ⌝ }
+        ensures { result.now ≡ cause_of self }
     {
         match self {
             Misuse::Unknown(_) => "no such option; there are --raw and --help",
@@ -49,7 +46,7 @@ impl Misuse {
 
 // The line for the user, with the word that is wrong where there is one.
 pub fn told(heap: Global, misuse: Misuse, texts: &[String]) -> Result<String, AllocError>
-    ensures { λ r. ⌜ made r (λ s. Told (codes "plan") (wordsIn (now (texts .entry))) (placeOf misuse) (causeOf misuse) (string-bytes s)) ⌝ }
+    ensures { IfOk result (λ s. Told (codes "plan") (words_in texts.now) (place_of misuse) (cause_of misuse) (string_bytes s)) }
 {
     command_words::told(heap, "plan", texts, misuse.place(), misuse.cause())
 }

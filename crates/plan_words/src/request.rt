@@ -1,16 +1,11 @@
 // What the arguments ask for, read word by word: the first that is wrong, or `--help`, decides.
 // Options may stand anywhere among the three numbers.
-ghost use Rattle·plan_words·specs.Words.{Answer, AnswerTo, Gathered, Joins, Kept, Stops, listOf};
-ghost use Rattle·std.specs.Options.{Cases as BySome};
-ghost use Rattle·std.specs.Vec.{made};
-ghost use lib.ListN.{length};
-ghost use mathlib.Core.List.{List, [], _++_, _∷_};
-ghost use mathlib.Core.Path.{_≡_};
-use crate::word::Word;
-use crate::word::words_of;
+ghost use Rattle.plan_words.specs.Words.{Answer, AnswerTo, Gathered, Joins, Kept, Stops, list_of};
+ghost use Rattle.std.specs.Prelude.{◌≡◌, List, [], ◌∷◌, ◌++◌, length, IfOk, MatchOption};
+
+use crate::word::{Word, words_of};
 use planning::Wish;
-use std::alloc::AllocError;
-use std::alloc::Global;
+use std::alloc::{AllocError, Global};
 
 #[derive(Clone, Copy)]
 pub enum Request {
@@ -45,7 +40,7 @@ enum Numbers {
 impl Numbers {
     // One number more, unless there are three.
     fn and(self, n: u64) -> Option<Numbers>
-        ensures { λ r. ⌜ BySome r (length (listOf self) ≡ 3) (λ more. listOf more ≡ listOf self ++ (n ∷ [])) ⌝ }
+        ensures { MatchOption result (length (list_of self) ≡ 3) (λ more. list_of more ≡ list_of self ++ (n ∷ [])) }
     {
         match self {
             Numbers::Zero => Some(Numbers::One(n)),
@@ -66,7 +61,7 @@ struct Asked {
 impl Asked {
     // With one word more, unless it ends the reading.
     fn with(self, word: Word) -> Option<Asked>
-        ensures { λ r. ⌜ Joins self word r ⌝ }
+        ensures { Joins self word result }
     {
         match word {
             Word::Raw => Some(Asked { raw: true, ..self }),
@@ -80,7 +75,7 @@ impl Asked {
 
     // The request, once all words are read.
     fn ended(self) -> Result<Request, Misuse>
-        ensures { λ r. ⌜ ((ws : List Word) → Kept self ws → Answer ws r) ⌝ }
+        ensures { (ws : List Word) → Kept self ws → Answer ws result }
     {
         match self.numbers {
             Numbers::Three(senders, others, numbers) => {
@@ -102,7 +97,7 @@ impl Asked {
 
 // What the words ask for, or the place of the first that does not go on.
 fn gathered(words: &[Word]) -> Result<Asked, usize>
-    ensures { λ r. ⌜ Gathered (now (words .entry)) r ⌝ }
+    ensures { Gathered words.now result }
 {
     let mut asked = Asked {
         raw: false,
@@ -119,8 +114,8 @@ fn gathered(words: &[Word]) -> Result<Asked, usize>
 
 // What is answered at the first word that does not go on.
 fn stopped(words: &[Word], i: usize) -> Result<Request, Misuse>
-    requires { ⌜ Stops (now words) i ⌝ }
-    ensures { λ r. ⌜ Answer (now (words .entry)) r ⌝ }
+    requires { Stops words.now i }
+    ensures { Answer words.now result }
 {
     match words[i] {
         Word::Help => Ok(Request::Help),
@@ -132,7 +127,7 @@ fn stopped(words: &[Word], i: usize) -> Result<Request, Misuse>
 
 // What the words ask for, or why they ask for nothing.
 fn answered(words: &[Word]) -> Result<Request, Misuse>
-    ensures { λ r. ⌜ Answer (now (words .entry)) r ⌝ }
+    ensures { Answer words.now result }
 {
     match gathered(words) {
         Ok(asked) => asked.ended(),
@@ -142,7 +137,7 @@ fn answered(words: &[Word]) -> Result<Request, Misuse>
 
 // What the texts ask for, or why they ask for nothing. Options may stand anywhere among the three numbers.
 pub fn read_words(heap: Global, texts: &[String]) -> Result<Result<Request, Misuse>, AllocError>
-    ensures { λ r. ⌜ made r (λ a. AnswerTo (now (texts .entry)) a) ⌝ }
+    ensures { IfOk result (λ a. AnswerTo texts.now a) }
 {
     let words = words_of(heap, texts)?;
     Ok(answered(&words))

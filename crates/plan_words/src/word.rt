@@ -1,13 +1,11 @@
 // What one argument is: an option, a number, or neither.
 // A word that begins with `-` is taken for an option, known or not.
-ghost use Rattle·command_words.specs.Each.{Each};
-ghost use Rattle·plan_words·specs.Words.{Dashed, Means, MeansText};
-ghost use Rattle·std.specs.Of.Vec.{vec-items};
-ghost use Rattle·std.specs.Orderings.{Decides};
-ghost use Rattle·std.specs.Vec.{made};
+ghost use Rattle.command_words.specs.Each.{Each};
+ghost use Rattle.plan_words.specs.Words.{Dashed, Means, MeansText};
+ghost use Rattle.std.specs.Prelude.{IfOk, Decides};
+
 use command_words::number;
-use std::alloc::AllocError;
-use std::alloc::Global;
+use std::alloc::{AllocError, Global};
 
 #[derive(Clone, Copy)]
 pub enum Word {
@@ -24,14 +22,14 @@ pub enum Word {
 
 // Whether a text begins with `-`.
 fn is_dashed(text: &str) -> bool
-    ensures { λ r. ⌜ Decides r (Dashed (now (text .entry))) ⌝ }
+    ensures { Decides result (Dashed text.now) }
 {
     text.starts_with('-')
 }
 
 impl Word {
     pub fn of(text: &str) -> Word
-        ensures { λ r. ⌜ Means (now (text .entry)) r ⌝ }
+        ensures { Means text.now result }
     {
         if text == "--help" {
             return Word::Help;
@@ -51,7 +49,7 @@ impl Word {
 
 // The words, in the order of the texts.
 pub fn words_of(heap: Global, texts: &[String]) -> Result<Vec<Word>, AllocError>
-    ensures { λ r. ⌜ made r (λ v. Each MeansText (now (texts .entry)) (vec-items v)) ⌝ }
+    ensures { IfOk result (λ v. Each MeansText texts.now v.items) }
 {
     let mut words = Vec::new(heap);
     for text in texts {

@@ -1,27 +1,22 @@
 -- What it is for a channel to serve what is asked, and which of those that serve come first.
--- Fits, Serves, NoneServes, slots, Before, Best, InOrder, AllThatServe; asked, settingsOf, Lowest, AllBefore. Assumes nothing.
-use mathlib.Core.Path.{_≡_}
-use mathlib.Core.List.{List, [], _∷_, map}
-use mathlib.Core.Logic.{_⊎_}
-use Prim.Native.Nat.{ℕ, _*_, _^_, _<_, _≤_}
-use Rattle·std.specs.declared.option.Option.{Option}
-use Rattle·std.specs.Options.{Cases}
-use Rattle·std.specs.shelf.Lists.{All, Has}
-use Rattle·speakall.specs.Plan.{Channel, size}
-use Rattle·channels.specs.declared.channel.Channel.{Channel as CodeChannel}
-use Rattle·channels.specs.Settings.{settings}
-use Rattle·channels.specs.Valid.{Valid}
-use Rattle·planning·specs.declared.wish.Wish.{Wish}
+-- Fits, Serves, NoneServes, slots, Before, Best, InOrder, AllThatServe; asked, settings_of, Lowest, AllBefore. Assumes nothing.
+use Rattle.std.specs.Prelude.{◌≡◌, ℕ, ◌*◌, ◌^◌, ◌<◌, ◌≤◌, ◌⊎◌, List, [], ◌∷◌, map, Option, MatchOption, ◌≢◌}
+use Rattle.std.specs.List.{ContainsAt as Has, AllByRecursion as All}
+use Rattle.speakall.specs.Plan.{Channel, size}
+use Rattle.channels.specs.declared.channel.Channel.{Channel as CodeChannel}
+use Rattle.channels.specs.Settings.{settings}
+use Rattle.channels.specs.Valid.{Valid}
+use Rattle.planning.specs.declared.wish.Wish.{Wish}
 
 -- as many senders or more, and messages as long or longer
 abbrev pub Fits : Wish → Channel → Type 0
-Fits w c = (w .senders ≤ (c .q) ^ (c .d)) × (w .numbers ≤ size c)
+Fits w c = (w.senders ≤ c.q ^ c.d) × (w.numbers ≤ size c)
 
 -- a valid channel with exactly the k that is asked for, which goes into a byte
 pub record Serves (w : Wish) (c : Channel) : Type 0 where
-  pub valid : Valid (c .q) (c .d) (c .k)
-  pub byte : c .k < 256
-  pub others : c .k ≡ w .others
+  pub valid : Valid c.q c.d c.k
+  pub byte : c.k < 256
+  pub others : c.k ≡ w.others
   pub fits : Fits w c
 
 abbrev pub NoneServes : Wish → Type 0
@@ -29,11 +24,11 @@ NoneServes w = (c : Channel) → Serves w c → ⊥
 
 -- slots of a frame
 abbrev pub slots : Channel → ℕ
-slots c = c .q * c .q
+slots c = c.q * c.q
 
 -- fewer slots, or as many and a lower d
 abbrev pub Before : Channel → Channel → Type 0
-Before a b = (slots a < slots b) ⊎ ((slots a ≡ slots b) × (a .d < b .d))
+Before a b = (slots a < slots b) ⊎ ((slots a ≡ slots b) × (a.d < b.d))
 
 -- it serves, and none that serves comes before it
 pub record Best (w : Wish) (c : Channel) : Type 0 where
@@ -53,16 +48,16 @@ pub record AllThatServe (w : Wish) (cs : List Channel) : Type 0 where
 
 -- the channel with this q and d and the k that is asked for
 abbrev pub asked : Wish → ℕ → ℕ → Channel
-asked w q d = record { q = q; d = d; k = w .others }
+asked w q d = record { q = q; d = d; k = w.others }
 
-abbrev pub settingsOf : List CodeChannel → List Channel
-settingsOf cs = map settings cs
+abbrev pub settings_of : List CodeChannel → List Channel
+settings_of cs = map settings cs
 
 -- of the channels with this q that serve, the one with the lowest d; or none serves
 abbrev pub Lowest : Wish → ℕ → Option CodeChannel → Type 0
 Lowest w q r =
-    Cases r ((b : Channel) → Serves w b → b .q ≡ q → ⊥)
-    (λ c. Serves w (settings c) × (settings c .q ≡ q) × ((b : Channel) → Serves w b → b .q ≡ q → settings c .d ≤ b .d))
+    MatchOption r ((b : Channel) → Serves w b → b.q ≢ q)
+    (λ c. Serves w (settings c) × ((settings c).q ≡ q) × ((b : Channel) → Serves w b → b.q ≡ q → (settings c).d ≤ b.d))
 
 -- all channels that serve and come before this one, and only those, in order
 pub record AllBefore (w : Wish) (end : Channel) (cs : List Channel) : Type 0 where

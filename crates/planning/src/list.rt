@@ -1,14 +1,11 @@
 // All channels that serve a wish, found in the order in which they are listed: the sides in rising order,
 // and for each the digits from 1 up.
-ghost use Rattle·faults.specs.declared.fault.Fault.the-variants.{Memory};
-ghost use Rattle·planning·specs.Wishes.{AllBefore, AllThatServe, asked, settingsOf};
-ghost use Rattle·speakall.specs.Plan.{sides as listedSides};
-ghost use Rattle·std.specs.Of.Vec.{vec-items};
-ghost use Rattle·std.specs.Results.{Cases};
-ghost use mathlib.Core.List.{[], _++_, _∷_};
-ghost use mathlib.Core.Path.{_≡_};
-use crate::wish::Wish;
-use crate::wish::serving;
+ghost use Rattle.faults.specs.declared.fault.Fault.TheVariants.{Memory};
+ghost use Rattle.planning.specs.Wishes.{AllBefore, AllThatServe, asked, settings_of};
+ghost use Rattle.speakall.specs.Plan.{sides as listed_sides};
+ghost use Rattle.std.specs.Prelude.{◌≡◌, [], ◌∷◌, ◌++◌, MatchResult};
+
+use crate::wish::{Wish, serving};
 use channels::Channel;
 use faults::Fault;
 use sides::sides;
@@ -16,7 +13,7 @@ use std::alloc::Global;
 
 // Puts the channel after those found, or tells that memory fails.
 fn keep(found: &mut Vec<Channel>, channel: Channel) -> Result<(), Fault>
-    ensures { λ r. ⌜ Cases r (λ _. vec-items (now (found .exit)) ≡ vec-items (now (found .entry)) ++ (channel ∷ [])) (λ e. e ≡ Memory) ⌝ }
+    ensures { MatchResult result (λ _. found.new.items ≡ found.old.items ++ (channel ∷ [])) (λ e. e ≡ Memory) }
 {
     if found.push(channel).is_err() {
         return Err(Fault::Memory);
@@ -26,8 +23,8 @@ fn keep(found: &mut Vec<Channel>, channel: Channel) -> Result<(), Fault>
 
 // Adds the channels with this q that serve, the lowest d first.
 fn add_side(wish: Wish, q: u8, found: &mut Vec<Channel>) -> Result<(), Fault>
-    requires { ⌜ AllBefore wish (asked wish q 1) (settingsOf (vec-items (now found))) ⌝ }
-    ensures { λ r. ⌜ Cases r (λ _. AllBefore wish (asked wish q 5) (settingsOf (vec-items (now (found .exit))))) (λ e. e ≡ Memory) ⌝ }
+    requires { AllBefore wish (asked wish q 1) (settings_of found.old.items) }
+    ensures { MatchResult result (λ _. AllBefore wish (asked wish q 5) (settings_of found.new.items)) (λ e. e ≡ Memory) }
 {
     for d in 1..5 {
         if let Some(channel) = serving(wish, q, d) {
@@ -39,8 +36,8 @@ fn add_side(wish: Wish, q: u8, found: &mut Vec<Channel>) -> Result<(), Fault>
 
 // Goes through the sides, which are all that q may be, in rising order.
 fn gathered(heap: Global, wish: Wish, sides: &[u8]) -> Result<Vec<Channel>, Fault>
-    requires { ⌜ now sides ≡ listedSides ⌝ }
-    ensures { λ r. ⌜ Cases r (λ v. AllThatServe wish (settingsOf (vec-items v))) (λ e. e ≡ Memory) ⌝ }
+    requires { sides.now ≡ listed_sides }
+    ensures { MatchResult result (λ v. AllThatServe wish (settings_of v.items)) (λ e. e ≡ Memory) }
 {
     let mut found = Vec::new(heap);
     for q in sides {
@@ -52,7 +49,7 @@ fn gathered(heap: Global, wish: Wish, sides: &[u8]) -> Result<Vec<Channel>, Faul
 // All channels that serve, the fewest slots first, then the lowest d; the empty list where none serves.
 // `Fault::Memory` where memory fails.
 pub fn all(heap: Global, wish: Wish) -> Result<Vec<Channel>, Fault>
-    ensures { λ r. ⌜ Cases r (λ v. AllThatServe wish (settingsOf (vec-items v))) (λ e. e ≡ Memory) ⌝ }
+    ensures { MatchResult result (λ v. AllThatServe wish (settings_of v.items)) (λ e. e ≡ Memory) }
 {
     gathered(heap, wish, sides())
 }

@@ -1,10 +1,9 @@
 // What is asked of a channel, and whether there is a channel with a given q and d that serves.
 // Whatever looks for channels asks here, so the rule of serving stands once.
-ghost use Rattle·channels.specs.Settings.{settings};
-ghost use Rattle·planning·specs.Wishes.{Fits, Serves, asked};
-ghost use Rattle·std.specs.Options.{Cases as BySome};
-ghost use Rattle·std.specs.Orderings.{Decides};
-ghost use mathlib.Core.Path.{_≡_};
+ghost use Rattle.channels.specs.Settings.{settings};
+ghost use Rattle.planning.specs.Wishes.{Fits, Serves, asked};
+ghost use Rattle.std.specs.Prelude.{◌≡◌, Decides, MatchOption};
+
 use channels::Channel;
 
 #[derive(Clone, Copy, PartialEq, Eq, Debug)]
@@ -19,14 +18,14 @@ pub struct Wish {
 
 // Whether the channel has as many senders, and messages as long, as are asked for.
 fn fits(wish: Wish, channel: Channel) -> bool
-    ensures { λ r. ⌜ Decides r (Fits wish (settings channel)) ⌝ }
+    ensures { Decides result (Fits wish (settings channel)) }
 {
     wish.senders <= u64::from(channel.senders()) && wish.numbers <= u64::from(channel.numbers())
 }
 
 // The channel with this q and d, if it is one and serves.
 pub fn serving(wish: Wish, q: u8, d: u8) -> Option<Channel>
-    ensures { λ r. ⌜ BySome r (Serves wish (asked wish q d) → ⊥) (λ c. (settings c ≡ asked wish q d) × Serves wish (settings c)) ⌝ }
+    ensures { MatchOption result (Serves wish (asked wish q d) → ⊥) (λ c. (settings c ≡ asked wish q d) × Serves wish (settings c)) }
 {
     let Ok(k) = u8::try_from(wish.others) else {
         return None;

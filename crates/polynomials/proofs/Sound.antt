@@ -1,140 +1,134 @@
 -- What sound words are, one by one: the first, those left, and each of them against the first.
 -- And the loop that finds out from the last word on, with the parts seen so far marked.
-use mathlib.Core.Path.{_≡_, refl, sym, ap, _∙_}
-use mathlib.Core.Bool.{Bool, true, false, not, _&&_, _||_}
-use mathlib.Core.Logic.{⊎-elim}
-use mathlib.Core.List.{List, [], _∷_}
-use Prim.Native.Nat.{ℕ, zero, suc, _+_, _-_, _<_, _≤_}
-use Rattle·polynomials·specs.Heard.{partAt, wordsIn}
-use Rattle·polynomials·specs.declared.words.PartWord.{PartWord}
-use Rattle·speakall.proofs.Pigeonhole.{pigeonhole}
-use Rattle·speakall.specs.Code.{hasPart, soundIn}
-use Rattle·speakall.specs.Frame.{p, Word}
-use Rattle·std.proofs.shelf.Lists.{drop-all, drop-more, getD-replicate, getD-set-other, getD-set-same, take-all}
-use Rattle·std.proofs.shelf.Tests.{cases-eq, eq-eqb, ne-eqb}
-use lib.Dec.{T, T-not, eqb, eqb-refl, lt→ltb, ltb, ltb→lt}
-use lib.ListN.{length, getD, drop, replicate, set, take}
-use mir.Facts.{and-yes, or-no, yes-and}
-use native.Mathlib.Omega.{arith}
+use Rattle.std.proofs.Common.{◌≡◌, ℕ, zero, suc, ◌+◌, ◌-◌, ◌<◌, ◌≤◌, Bool, true, false, not, ◌&&◌, ◌||◌, T, eqb, ltb, List, [], ◌∷◌, length, get_or, take, drop, set, replicate, sym, refl, ap, ◌∙◌, ⊎_elim, arith, ltb→lt, lt→ltb, T_not}
+use Rattle.polynomials.specs.Heard.{part_at, words_in}
+use Rattle.polynomials.specs.declared.words.PartWord.{PartWord}
+use Rattle.speakall.proofs.Pigeonhole.{pigeonhole}
+use Rattle.speakall.specs.Code.{has_part, sound_in}
+use Rattle.speakall.specs.Frame.{p, Word}
+use Rattle.std.proofs.lemmas.List.{drop_all, drop_more, get_or-replicate, get_or-set_other, get_or-set_same, take_all}
+use Rattle.std.proofs.lemmas.Bool.{cases_eq, eq-eqb, ne_eqb}
+use lib.Dec.{eqb_refl}
+use mir.Facts.{and_yes, or_no, yes_and}
 
-abbrev pub valueAt : List PartWord → ℕ → ℕ
-valueAt ws k = getD ws k (record { part = 0; value = 0 }) .value
+abbrev pub value_at : List PartWord → ℕ → ℕ
+value_at ws k = (get_or ws k (record { part = 0; value = 0 })).value
 
--- what soundIn asks of a first word
-sound-cons : (q : ℕ) (w : Word) (ws : List Word) → T (soundIn q (w ∷ ws)) → T (not (hasPart (w .part) ws)) × (w .part < q) × (w .word < p) × T (soundIn q ws)
-unfolding soundIn
-sound-cons q w ws h =
-    let a = and-yes _ _ h in
-    let b = and-yes _ _ (a .0) in
-    let c = and-yes _ _ (b .0) in
-    (c .0, ltb→lt _ _ (c .1), ltb→lt _ _ (b .1), a .1)
+-- what sound_in asks of a first word
+sound_cons : (q : ℕ) (w : Word) (ws : List Word) → T (sound_in q (w ∷ ws)) → T (not (has_part w.part ws)) × (w.part < q) × (w.word < p) × T (sound_in q ws)
+unfolding sound_in
+sound_cons q w ws h =
+    let a = and_yes _ _ h in
+    let b = and_yes _ _ a.0 in
+    let c = and_yes _ _ b.0 in
+    (c.0, ltb→lt _ _ c.1, ltb→lt _ _ b.1, a.1)
 
-apart-at : (x : ℕ) (ws : List PartWord) (k : ℕ) → T (not (hasPart x (wordsIn ws))) → k < length ws → partAt ws k ≡ x → ⊥
-unfolding hasPart
-apart-at x [] k h lt e = absurd (omega arith)
-apart-at x (w ∷ ws) zero h lt e = T-not (eqb x (w .part)) (or-no _ _ h .0) (rw e (eqb-refl x))
-apart-at x (w ∷ ws) (suc k) h lt e = apart-at x ws k (or-no _ _ h .1) (omega arith) e
+apart_at : (x : ℕ) (ws : List PartWord) (k : ℕ) → T (not (has_part x (words_in ws))) → k < length ws → part_at ws k ≡ x → ⊥
+unfolding has_part
+apart_at x [] k h lt e = absurd (omega arith)
+apart_at x (w ∷ ws) zero h lt e = T_not (eqb x w.part) (or_no _ _ h).0 (rw e (eqb_refl x))
+apart_at x (w ∷ ws) (suc k) h lt e = apart_at x ws k (or_no _ _ h).1 (omega arith) e
 
-part-at : (q : ℕ) (ws : List PartWord) (k : ℕ) → T (soundIn q (wordsIn ws)) → k < length ws → partAt ws k < q
-part-at q [] k h lt = absurd (omega arith)
-part-at q (w ∷ ws) zero h lt = sound-cons q _ _ h .1
-part-at q (w ∷ ws) (suc k) h lt = part-at q ws k (sound-cons q _ _ h .3) (omega arith)
+part_at_lem : (q : ℕ) (ws : List PartWord) (k : ℕ) → T (sound_in q (words_in ws)) → k < length ws → part_at ws k < q
+part_at_lem q [] k h lt = absurd (omega arith)
+part_at_lem q (w ∷ ws) zero h lt = (sound_cons q _ _ h).1
+part_at_lem q (w ∷ ws) (suc k) h lt = part_at_lem q ws k (sound_cons q _ _ h).3 (omega arith)
 
-pub sound-first : (q : ℕ) (ws : List PartWord) → 0 < length ws → T (soundIn q (wordsIn ws)) → partAt ws 0 < q
-sound-first q ws lt h = part-at q ws 0 h lt
+pub sound-first : (q : ℕ) (ws : List PartWord) → 0 < length ws → T (sound_in q (words_in ws)) → part_at ws 0 < q
+sound-first q ws lt h = part_at_lem q ws 0 h lt
 
-pub sound-left : (q : ℕ) (ws left : List PartWord) → left ≡ drop 1 ws → T (soundIn q (wordsIn ws)) → T (soundIn q (wordsIn left))
+pub sound-left : (q : ℕ) (ws left : List PartWord) → left ≡ drop 1 ws → T (sound_in q (words_in ws)) → T (sound_in q (words_in left))
 sound-left q [] left e h = rw e h
-sound-left q (w ∷ ws) left e h = rw e (sound-cons q _ _ h .3)
+sound-left q (w ∷ ws) left e h = rw e (sound_cons q _ _ h).3
 
-pub sound-apart : (q : ℕ) (ws left : List PartWord) → left ≡ drop 1 ws → 0 < length ws → T (soundIn q (wordsIn ws)) → (k : ℕ) → k < length left → (partAt left k < q) × (partAt left k ≡ partAt ws 0 → ⊥)
-sound-apart q [] left e lt h = absurd (omega arith)
-sound-apart q (w ∷ ws) left e lt h =
-    let all : (k : ℕ) → k < length ws → (partAt ws k < q) × (partAt ws k ≡ w .part → ⊥) = λ k l. (part-at q ws k (sound-cons q _ _ h .3) l, apart-at (w .part) ws k (sound-cons q _ _ h .0) l) in
+pub sound_apart : (q : ℕ) (ws left : List PartWord) → left ≡ drop 1 ws → 0 < length ws → T (sound_in q (words_in ws)) → (k : ℕ) → k < length left → (part_at left k < q) × (part_at left k ≡ part_at ws 0 → ⊥)
+sound_apart q [] left e lt h = absurd (omega arith)
+sound_apart q (w ∷ ws) left e lt h =
+    let all : (k : ℕ) → k < length ws → (part_at ws k < q) × (part_at ws k ≡ w.part → ⊥) = λ k l. (part_at_lem q ws k (sound_cons q _ _ h).3 l, apart_at w.part ws k (sound_cons q _ _ h).0 l) in
     rw e all
 
-pub value-at : (q : ℕ) (ws : List PartWord) (k : ℕ) → T (soundIn q (wordsIn ws)) → k < length ws → valueAt ws k < p
-value-at q [] k h lt = absurd (omega arith)
-value-at q (w ∷ ws) zero h lt = sound-cons q _ _ h .2
-value-at q (w ∷ ws) (suc k) h lt = value-at q ws k (sound-cons q _ _ h .3) (omega arith)
+pub value_at_lem : (q : ℕ) (ws : List PartWord) (k : ℕ) → T (sound_in q (words_in ws)) → k < length ws → value_at ws k < p
+value_at_lem q [] k h lt = absurd (omega arith)
+value_at_lem q (w ∷ ws) zero h lt = (sound_cons q _ _ h).2
+value_at_lem q (w ∷ ws) (suc k) h lt = value_at_lem q ws k (sound_cons q _ _ h).3 (omega arith)
 
-sound-drop : (q : ℕ) (ws : List PartWord) (n : ℕ) → T (soundIn q (wordsIn ws)) → T (soundIn q (wordsIn (drop n ws)))
+sound-drop : (q : ℕ) (ws : List PartWord) (n : ℕ) → T (sound_in q (words_in ws)) → T (sound_in q (words_in (drop n ws)))
 sound-drop q ws zero h = h
 sound-drop q [] (suc n) h = h
-sound-drop q (w ∷ ws) (suc n) h = sound-drop q ws n (sound-cons q _ _ h .3)
+sound-drop q (w ∷ ws) (suc n) h = sound-drop q ws n (sound_cons q _ _ h).3
 
-pub seen-none : (ws : List PartWord) (x : ℕ) → x < 256 → getD (replicate 256 false) x false ≡ hasPart x (wordsIn (drop (length ws) ws))
-unfolding hasPart
-seen-none ws x h = rw (getD-replicate 256 x false false h, drop-all (length ws) ws (omega arith)) refl
+pub seen_none : (ws : List PartWord) (x : ℕ) → x < 256 → get_or (replicate 256 false) x false ≡ has_part x (words_in (drop (length ws) ws))
+unfolding has_part
+seen_none ws x h = rw (get_or-replicate 256 x false false h, drop_all (length ws) ws (omega arith)) refl
 
-pub sound-none : (q : ℕ) (ws : List PartWord) → soundIn q (wordsIn (drop (length ws) ws)) ≡ true
-unfolding soundIn
-sound-none q ws = rw (drop-all (length ws) ws (omega arith)) refl
+pub sound_none : (q : ℕ) (ws : List PartWord) → sound_in q (words_in (drop (length ws) ws)) ≡ true
+unfolding sound_in
+sound_none q ws = rw (drop_all (length ws) ws (omega arith)) refl
 
-pub sound-all : (q i : ℕ) (ws : List PartWord) → i ≤ 0 → soundIn q (wordsIn (drop i ws)) ≡ true → true ≡ soundIn q (wordsIn ws)
-sound-all q i ws h e = let z : i ≡ 0 = omega arith in sym (rw z at e)
+pub sound_all : (q i : ℕ) (ws : List PartWord) → i ≤ 0 → sound_in q (words_in (drop i ws)) ≡ true → true ≡ sound_in q (words_in ws)
+sound_all q i ws h e = let z : i ≡ 0 = omega arith in sym (rw z at e)
 
 neither : (a b : Bool) → T (not a) → T (not b) → T (not (a || b))
 neither true b g h = g
 neither false b g h = h
 
-apart-take : (x n : ℕ) (ws : List PartWord) → T (not (hasPart x (wordsIn ws))) → T (not (hasPart x (wordsIn (take n ws))))
-unfolding hasPart
-apart-take x zero ws h = tt
-apart-take x (suc n) [] h = tt
-apart-take x (suc n) (w ∷ ws) h = let parts = or-no _ _ h in neither _ _ (parts .0) (apart-take x n ws (parts .1))
+apart_take : (x n : ℕ) (ws : List PartWord) → T (not (has_part x (words_in ws))) → T (not (has_part x (words_in (take n ws))))
+unfolding has_part
+apart_take x zero ws h = tt
+apart_take x (suc n) [] h = tt
+apart_take x (suc n) (w ∷ ws) h = let parts = or_no _ _ h in neither _ _ parts.0 (apart_take x n ws parts.1)
 
 -- the first of sound words are sound, with more parts too
-pub sound-take : (q r n : ℕ) (ws : List PartWord) → q ≤ r → T (soundIn q (wordsIn ws)) → T (soundIn r (wordsIn (take n ws)))
-unfolding soundIn
+pub sound-take : (q r n : ℕ) (ws : List PartWord) → q ≤ r → T (sound_in q (words_in ws)) → T (sound_in r (words_in (take n ws)))
+unfolding sound_in
 sound-take q r zero ws le h = tt
 sound-take q r (suc n) [] le h = tt
 sound-take q r (suc n) (w ∷ ws) le h =
-    let first = sound-cons q _ _ h in
-    let lt : w .part < r = let k = first .1 in omega arith in
-    yes-and _ _ (yes-and _ _ (yes-and _ _ (apart-take (w .part) n ws (first .0)) (lt→ltb _ _ lt)) (lt→ltb _ _ (first .2))) (sound-take q r n ws le (first .3))
+    let first = sound_cons q _ _ h in
+    let lt : w.part < r = let k = first.1 in omega arith in
+    yes_and _ _ (yes_and _ _ (yes_and _ _ (apart_take w.part n ws first.0) (lt→ltb _ _ lt)) (lt→ltb _ _ first.2)) (sound-take q r n ws le first.3)
 
-pub sound-wider : (q r : ℕ) (ws : List PartWord) → q ≤ r → T (soundIn q (wordsIn ws)) → T (soundIn r (wordsIn ws))
-sound-wider q r ws le h = rw (← take-all (length ws) ws (omega arith)) (sound-take q r (length ws) ws le h)
+pub sound_wider : (q r : ℕ) (ws : List PartWord) → q ≤ r → T (sound_in q (words_in ws)) → T (sound_in r (words_in ws))
+sound_wider q r ws le h = rw (← take_all (length ws) ws (omega arith)) (sound-take q r (length ws) ws le h)
 
 -- as their parts are different, there are at most q
-pub sound-few : (q : ℕ) (ws : List PartWord) → T (soundIn q (wordsIn ws)) → length ws ≤ q
-sound-few q ws h = pigeonhole q (length ws) (partAt ws) (λ i lt. part-at q ws i h lt) (apart ws h)
+pub sound_few : (q : ℕ) (ws : List PartWord) → T (sound_in q (words_in ws)) → length ws ≤ q
+sound_few q ws h = pigeonhole q (length ws) (part_at ws) (λ i lt. part_at_lem q ws i h lt) (apart ws h)
   where
-    apart : (ws : List PartWord) → T (soundIn q (wordsIn ws)) → (i j : ℕ) → i < j → j < length ws → partAt ws i ≡ partAt ws j → ⊥
+    apart : (ws : List PartWord) → T (sound_in q (words_in ws)) → (i j : ℕ) → i < j → j < length ws → part_at ws i ≡ part_at ws j → ⊥
     apart [] h i j a b e = absurd (omega arith)
     apart (w ∷ ws) h i zero a b e = absurd (omega arith)
-    apart (w ∷ ws) h zero (suc j) a b e = apart-at (w .part) ws j (sound-cons q _ _ h .0) (omega arith) (sym e)
-    apart (w ∷ ws) h (suc i) (suc j) a b e = apart ws (sound-cons q _ _ h .3) i j (omega arith) (omega arith) e
+    apart (w ∷ ws) h zero (suc j) a b e = apart_at w.part ws j (sound_cons q _ _ h).0 (omega arith) (sym e)
+    apart (w ∷ ws) h (suc i) (suc j) a b e = apart ws (sound_cons q _ _ h).3 i j (omega arith) (omega arith) e
 
 -- at i the word before the last ones, which are those from i on
 module _ (ws : List PartWord) (i : ℕ) (pos : 0 < i) (le : i ≤ length ws) where
-  back : drop (i - 1) ws ≡ getD ws (i - 1) (record { part = 0; value = 0 }) ∷ drop i ws
+  back : drop (i - 1) ws ≡ get_or ws (i - 1) (record { part = 0; value = 0 }) ∷ drop i ws
   back =
       let lt : i - 1 < length ws = omega arith in
       let e : i - 1 + 1 ≡ i = omega arith in
-      drop-more ws (i - 1) (record { part = 0; value = 0 }) lt ∙ ap (λ (n : ℕ). getD ws (i - 1) (record { part = 0; value = 0 }) ∷ drop n ws) e
+      drop_more ws (i - 1) (record { part = 0; value = 0 }) lt ∙ ap (λ (n : ℕ). get_or ws (i - 1) (record { part = 0; value = 0 }) ∷ drop n ws) e
 
-  pub seen-more : (seen : List Bool) → length seen ≡ 256 → partAt ws (i - 1) < 256 → ((x : ℕ) → x < 256 → getD seen x false ≡ hasPart x (wordsIn (drop i ws))) → (x : ℕ) → x < 256 → getD (set seen (partAt ws (i - 1)) true) x false ≡ hasPart x (wordsIn (drop (i - 1) ws))
-  unfolding hasPart
-  seen-more seen l in′ marks x h = rw back (⊎-elim here other (cases-eq x (partAt ws (i - 1))))
+  pub seen_more : (seen : List Bool) → length seen ≡ 256 → part_at ws (i - 1) < 256 → ((x : ℕ) → x < 256 → get_or seen x false ≡ has_part x (words_in (drop i ws))) → (x : ℕ) → x < 256 → get_or (set seen (part_at ws (i - 1)) true) x false ≡ has_part x (words_in (drop (i - 1) ws))
+  unfolding has_part
+  seen_more seen l in' marks x h = rw back (⊎_elim here other (cases_eq x (part_at ws (i - 1))))
     where
-      here : x ≡ partAt ws (i - 1) → getD (set seen (partAt ws (i - 1)) true) x false ≡ (eqb x (partAt ws (i - 1)) || hasPart x (wordsIn (drop i ws)))
-      here e = let f : partAt ws (i - 1) < length seen = omega arith in rw (eq-eqb x (partAt ws (i - 1)) e, e, getD-set-same seen (partAt ws (i - 1)) true false f) refl
+      here : x ≡ part_at ws (i - 1) → get_or (set seen (part_at ws (i - 1)) true) x false ≡ (eqb x (part_at ws (i - 1)) || has_part x (words_in (drop i ws)))
+      here e = let f : part_at ws (i - 1) < length seen = omega arith in rw (eq-eqb x (part_at ws (i - 1)) e, e, get_or-set_same seen (part_at ws (i - 1)) true false f) refl
 
-      other : (x ≡ partAt ws (i - 1) → ⊥) → getD (set seen (partAt ws (i - 1)) true) x false ≡ (eqb x (partAt ws (i - 1)) || hasPart x (wordsIn (drop i ws)))
-      other ne = rw (ne-eqb x (partAt ws (i - 1)) ne, getD-set-other seen (partAt ws (i - 1)) x true false ne) (marks x h)
+      other : (x ≡ part_at ws (i - 1) → ⊥) → get_or (set seen (part_at ws (i - 1)) true) x false ≡ (eqb x (part_at ws (i - 1)) || has_part x (words_in (drop i ws)))
+      other ne = rw (ne_eqb x (part_at ws (i - 1)) ne, get_or-set_other seen (part_at ws (i - 1)) x true false ne) (marks x h)
 
-  pub sound-more : (q : ℕ) → hasPart (partAt ws (i - 1)) (wordsIn (drop i ws)) ≡ false → true ≡ (ltb (partAt ws (i - 1)) q && ltb (valueAt ws (i - 1)) p) → soundIn q (wordsIn (drop i ws)) ≡ true → soundIn q (wordsIn (drop (i - 1) ws)) ≡ true
-  unfolding soundIn
-  sound-more q new both s = rw (back, new, s) (good (ltb (partAt ws (i - 1)) q) (ltb (valueAt ws (i - 1)) p) both)
+  pub sound_more : (q : ℕ) → has_part (part_at ws (i - 1)) (words_in (drop i ws)) ≡ false → true ≡ (ltb (part_at ws (i - 1)) q && ltb (value_at ws (i - 1)) p) → sound_in q (words_in (drop i ws)) ≡ true → sound_in q (words_in (drop (i - 1) ws)) ≡ true
+  unfolding sound_in
+  sound_more q new both s = rw (back, new, s) (good (ltb (part_at ws (i - 1)) q) (ltb (value_at ws (i - 1)) p) both)
     where
       good : (a b : Bool) → true ≡ (a && b) → (a && b && true) ≡ true
       good true true e = refl
       good true false e = sym e
       good false b e = sym e
 
-  fails : (q : ℕ) → soundIn q (wordsIn (drop (i - 1) ws)) ≡ false → false ≡ soundIn q (wordsIn ws)
+  fails : (q : ℕ) → sound_in q (words_in (drop (i - 1) ws)) ≡ false → false ≡ sound_in q (words_in ws)
   fails q e = first _ _ (sound-drop q ws (i - 1)) e
     where
       first : (a b : Bool) → (T a → T b) → b ≡ false → false ≡ a
@@ -142,13 +136,13 @@ module _ (ws : List PartWord) (i : ℕ) (pos : 0 < i) (le : i ≤ length ws) whe
       first true true f e = sym e
       first true false f e = absurd (f tt)
 
-  pub sound-twice : (q : ℕ) → hasPart (partAt ws (i - 1)) (wordsIn (drop i ws)) ≡ true → false ≡ soundIn q (wordsIn ws)
-  unfolding soundIn
-  sound-twice q has = fails q (rw (back, has) refl)
+  pub sound_twice : (q : ℕ) → has_part (part_at ws (i - 1)) (words_in (drop i ws)) ≡ true → false ≡ sound_in q (words_in ws)
+  unfolding sound_in
+  sound_twice q has = fails q (rw (back, has) refl)
 
-  pub sound-off : (q : ℕ) → false ≡ (ltb (partAt ws (i - 1)) q && ltb (valueAt ws (i - 1)) p) → false ≡ soundIn q (wordsIn ws)
-  unfolding soundIn
-  sound-off q off = fails q (rw back (bad (hasPart (partAt ws (i - 1)) (wordsIn (drop i ws))) (ltb (partAt ws (i - 1)) q) (ltb (valueAt ws (i - 1)) p) (soundIn q (wordsIn (drop i ws))) off))
+  pub sound_off : (q : ℕ) → false ≡ (ltb (part_at ws (i - 1)) q && ltb (value_at ws (i - 1)) p) → false ≡ sound_in q (words_in ws)
+  unfolding sound_in
+  sound_off q off = fails q (rw back (bad (has_part (part_at ws (i - 1)) (words_in (drop i ws))) (ltb (part_at ws (i - 1)) q) (ltb (value_at ws (i - 1)) p) (sound_in q (words_in (drop i ws))) off))
     where
       bad : (h a b s : Bool) → false ≡ (a && b) → (not h && a && b && s) ≡ false
       bad true a b s e = refl

@@ -1,13 +1,10 @@
 // The polynomial through given words, of as many coefficients as there are words, worked out in the memory that is lent for it.
 // f = y₀ + (X - x₀) · g, where g goes through the slopes (yᵢ - y₀) / (xᵢ - x₀) of the other words: a recursion over the words left.
-ghost use Prim.Native.Nat.{ℕ, _<_};
-ghost use Rattle·polynomials·specs.Heard.{Fitted, Product, Reduced, Slope, partAt, wordsIn};
-ghost use Rattle·speakall.specs.Code.{soundIn};
-ghost use Rattle·speakall.specs.Frame.{agrees, p, wordAt};
-ghost use lib.Dec.{T};
-ghost use lib.ListN.{length, getD, drop};
-ghost use mathlib.Core.Bool.{false, true};
-ghost use mathlib.Core.Path.{_≡_};
+ghost use Rattle.std.specs.Prelude.{◌≡◌, ℕ, ◌<◌, true, false, T, length, drop, ◌≢◌, slice_index};
+ghost use Rattle.polynomials.specs.Heard.{Fitted, Product, Reduced, Slope, part_at, words_in};
+ghost use Rattle.speakall.specs.Code.{sound_in};
+ghost use Rattle.speakall.specs.Frame.{agrees, p, word_at};
+
 use crate::P;
 use crate::checks::is_sound;
 use crate::inverses::inverse_of_difference;
@@ -18,8 +15,8 @@ const PARTS: u8 = 251;
 
 // The slope (y - y₀) / (x - x₀) from one point to another.
 fn slope(x: u8, y: u32, x0: u8, y0: u32) -> u32
-    requires { ⌜ x < 251 ⌝ ∗ ⌜ x0 < 251 ⌝ ∗ ⌜ (x ≡ x0 → ⊥) ⌝ ∗ ⌜ y < p ⌝ ∗ ⌜ y0 < p ⌝ }
-    ensures { λ r. ⌜ (r < p) × Slope x y x0 y0 r ⌝ }
+    requires { (x < 251) × ((x0 < 251) × (((x ≢ x0)) × ((y < p) × (y0 < p)))) }
+    ensures { (result < p) × Slope x y x0 y0 result }
 {
     let rise = y as u64 + (P - y0 as u64);
     (rise * inverse_of_difference(x, x0) % P) as u32
@@ -27,12 +24,12 @@ fn slope(x: u8, y: u32, x0: u8, y0: u32) -> u32
 
 // Each value becomes the slope from the point (x₀, y₀) to the point of its word's part and itself.
 fn slopes(x0: u8, y0: u32, words: &[PartWord], values: &mut [u32])
-    requires long { ⌜ length (now words) ≡ length (now values) ⌝ }
-    requires first { ⌜ x0 < 251 ⌝ ∗ ⌜ y0 < p ⌝ }
-    requires apart { ⌜ ((k : ℕ) → k < length (now words) → (partAt (now words) k < 251) × (partAt (now words) k ≡ x0 → ⊥)) ⌝ }
-    requires reduced { ⌜ Reduced (now values) ⌝ }
-    ensures reduced { λ _. ⌜ Reduced (now (values .exit)) ⌝ }
-    ensures slopes { λ _. ⌜ ((k : ℕ) → k < length (now (words .entry)) → Slope (partAt (now (words .entry)) k) (getD (now (values .entry)) k 0) x0 y0 (getD (now (values .exit)) k 0)) ⌝ }
+    requires long { length words.now ≡ length values.old }
+    requires first { (x0 < 251) × (y0 < p) }
+    requires apart { (k : ℕ) → k < length words.now → (part_at words.now k < 251) × (part_at words.now k ≢ x0) }
+    requires reduced { Reduced values.old }
+    ensures reduced { Reduced values.new }
+    ensures slopes { (k : ℕ) → k < length words.now → Slope (part_at words.now k) (slice_index values.old k) x0 y0 (slice_index values.new k) }
 {
     for i in 0..values.len() {
         values[i] = slope(words[i].part, values[i], x0, y0);
@@ -41,9 +38,9 @@ fn slopes(x0: u8, y0: u32, words: &[PartWord], values: &mut [u32])
 
 // The coefficients y₀, g₀, g₁, .. become those of y₀ + (X - x₀) · g.
 fn times(x0: u8, values: &mut [u32])
-    requires { ⌜ Reduced (now values) ⌝ }
-    ensures reduced { λ _. ⌜ Reduced (now (values .exit)) ⌝ }
-    ensures product { λ _. ⌜ Product x0 (getD (now (values .entry)) 0 0) (drop 1 (now (values .entry))) (now (values .exit)) ⌝ }
+    requires { Reduced values.old }
+    ensures reduced { Reduced values.new }
+    ensures product { Product x0 (slice_index values.old 0) (drop 1 values.old) values.new }
 {
     let minus = P - x0 as u64;
     for i in 1..values.len() {
@@ -53,11 +50,11 @@ fn times(x0: u8, values: &mut [u32])
 
 // The values become the coefficients of the polynomial that has them at the parts of the words: O(s²) products for s words.
 fn through(words: &[PartWord], values: &mut [u32])
-    requires long { ⌜ length (now words) ≡ length (now values) ⌝ }
-    requires sound { ⌜ T (soundIn 251 (wordsIn (now words))) ⌝ }
-    requires reduced { ⌜ Reduced (now values) ⌝ }
-    ensures reduced { λ _. ⌜ Reduced (now (values .exit)) ⌝ }
-    ensures through { λ _. ⌜ ((k : ℕ) → k < length (now (words .entry)) → wordAt (now (values .exit)) (partAt (now (words .entry)) k) ≡ getD (now (values .entry)) k 0) ⌝ }
+    requires long { length words.now ≡ length values.old }
+    requires sound { T (sound_in 251 (words_in words.now)) }
+    requires reduced { Reduced values.old }
+    ensures reduced { Reduced values.new }
+    ensures through { (k : ℕ) → k < length words.now → word_at values.new (part_at words.now k) ≡ slice_index values.old k }
 {
     let [first, left @ ..] = words else {
         return;
@@ -71,10 +68,10 @@ fn through(words: &[PartWord], values: &mut [u32])
 
 // The values become the coefficients of the polynomial on which the words lie.
 fn fit(words: &[PartWord], values: &mut [u32])
-    requires long { ⌜ length (now words) ≡ length (now values) ⌝ }
-    requires sound { ⌜ T (soundIn 251 (wordsIn (now words))) ⌝ }
-    ensures reduced { λ _. ⌜ Reduced (now (values .exit)) ⌝ }
-    ensures agrees { λ _. ⌜ T (agrees (now (values .exit)) (wordsIn (now (words .entry)))) ⌝ }
+    requires long { length words.now ≡ length values.old }
+    requires sound { T (sound_in 251 (words_in words.now)) }
+    ensures reduced { Reduced values.new }
+    ensures agrees { T (agrees values.new (words_in words.now)) }
 {
     for i in 0..values.len() {
         values[i] = words[i].value;
@@ -84,8 +81,8 @@ fn fit(words: &[PartWord], values: &mut [u32])
 
 // Whether the words are so many, and sound.
 fn can_fit(words: &[PartWord], count: usize) -> bool
-    ensures yes { λ r. ⌜ (r ≡ true → (length (now (words .entry)) ≡ count) × T (soundIn 251 (wordsIn (now (words .entry))))) ⌝ }
-    ensures no { λ r. ⌜ (r ≡ false → length (now (words .entry)) ≡ count → T (soundIn 251 (wordsIn (now (words .entry)))) → ⊥) ⌝ }
+    ensures yes { result ≡ true → (length words.now ≡ count) × T (sound_in 251 (words_in words.now)) }
+    ensures no { result ≡ false → length words.now ≡ count → T (sound_in 251 (words_in words.now)) → ⊥ }
 {
     words.len() == count && is_sound(PARTS, words)
 }
@@ -93,7 +90,7 @@ fn can_fit(words: &[PartWord], count: usize) -> bool
 // Whether the words are as many as the values, and sound: then the values become the coefficients of the polynomial on which the words lie,
 // in O(s²) products for s words, and otherwise they stay.
 pub fn interpolate(words: &[PartWord], values: &mut [u32]) -> bool
-    ensures { λ r. ⌜ Fitted (now (words .entry)) (now (values .entry)) r (now (values .exit)) ⌝ }
+    ensures { Fitted words.now values.old result values.new }
 {
     if !can_fit(words, values.len()) {
         return false;

@@ -1,8 +1,7 @@
 // What a sender says of its message in each part of a frame: the word of the part, the polynomial's value there modulo P.
-ghost use Prim.Native.Nat.{ℕ, _%_, _<_};
-ghost use Rattle·speakall.specs.Frame.{p, wordAt};
-ghost use lib.ListN.{length, getD};
-ghost use mathlib.Core.Path.{_≡_};
+ghost use Rattle.std.specs.Prelude.{◌≡◌, ℕ, ◌%◌, ◌<◌, length, slice_index};
+ghost use Rattle.speakall.specs.Frame.{p, word_at};
+
 use crate::P;
 
 // A word heard of a sender, with the part of the frame in which it was heard.
@@ -14,9 +13,9 @@ pub struct PartWord {
 
 // The value at x of the polynomial with these coefficients, modulo P: from the highest coefficient down. It is the same at all points that are x modulo P.
 fn value(message: &[u32], x: u64) -> u64
-    requires { ⌜ x < p ⌝ }
-    ensures below { λ r. ⌜ r < p ⌝ }
-    ensures is { λ r. ⌜ ((y : ℕ) → x ≡ y % p → r ≡ wordAt (now (message .entry)) y) ⌝ }
+    requires { x < p }
+    ensures below { result < p }
+    ensures is { (y : ℕ) → x ≡ y % p → result ≡ word_at message.now y }
 {
     let mut value = 0;
     for i in (0..message.len()).rev() {
@@ -27,14 +26,14 @@ fn value(message: &[u32], x: u64) -> u64
 
 // The word of a message in a part, in O(s) products.
 pub fn word_at(message: &[u32], part: usize) -> u32
-    ensures { λ r. ⌜ r ≡ wordAt (now (message .entry)) part ⌝ }
+    ensures { result ≡ word_at message.now part }
 {
     value(message, part as u64 % P) as u32
 }
 
 // The words of the parts 0, 1, .., one for each place of the lent slice.
 pub fn words_of(message: &[u32], words: &mut [u32])
-    ensures { λ _. ⌜ ((x : ℕ) → x < length (now (words .exit)) → getD (now (words .exit)) x 0 ≡ wordAt (now (message .entry)) x) ⌝ }
+    ensures { (x : ℕ) → x < length words.new → slice_index words.new x ≡ word_at message.now x }
 {
     for (part, word) in words.iter_mut().enumerate() {
         *word = word_at(message, part);

@@ -1,27 +1,21 @@
 -- A whole input: the record of a channel, and then records of one kind.
--- Input, readInput; HeardIs, HeardInputIs, MessagesAre, MessageInputIs, noChannel. Assumes nothing.
-use mathlib.Core.Path.{_≡_}
-use mathlib.Core.List.{List, []}
-use Prim.Native.Nat.{ℕ}
-use lib.ListN.{drop}
-use Rattle·std.specs.Joined.{joined}
-use Rattle·std.specs.Of.Vec.{vec-items}
-use Rattle·std.specs.declared.option.Option.{Option}
-use Rattle·std.specs.declared.option.Option.the-variants.{Some, None}
-use Rattle·channels.specs.declared.channel.Channel.{Channel}
-use Rattle·faults.specs.declared.fault.Fault.the-variants.{Kind as FaultKind}
-use Rattle·channels.specs.Settings.{settings}
-use Rattle·records.specs.Channels.{channelIn}
-use Rattle·records.specs.declared.found.Found.{Found}
-use Rattle·records.specs.declared.found.Found.the-variants.{Whole, Wrong, Short}
-use Rattle·records.specs.declared.heard.Heard.{Heard}
-use Rattle·reading.specs.declared.Stopped.{Stopped}
-use Rattle·reading.specs.Reading.{Format, Reading, cutAt, faultAt, readFrom, stoppedAt}
-use Rattle·readers·specs.declared.heard_input.HeardRead.{HeardRead}
-use Rattle·readers·specs.declared.heard_input.HeardInput.{HeardInput}
-use Rattle·readers·specs.declared.message_input.MessageRead.{MessageRead}
-use Rattle·readers·specs.declared.message_input.MessageInput.{MessageInput}
-use Rattle·speakall.specs.Plan as statement
+-- Input, read_input; HeardIs, HeardInputIs, MessagesAre, MessageInputIs, no_channel. Assumes nothing.
+use Rattle.std.specs.Prelude.{◌≡◌, ℕ, List, [], drop, Some, None, vec_items, Option}
+use Rattle.std.specs.List.{flat_map}
+use Rattle.channels.specs.declared.channel.Channel.{Channel}
+use Rattle.faults.specs.declared.fault.Fault.TheVariants.{Kind as FaultKind}
+use Rattle.channels.specs.Settings.{settings}
+use Rattle.records.specs.Channels.{channel_in}
+use Rattle.records.specs.declared.found.Found.{Found}
+use Rattle.records.specs.declared.found.Found.TheVariants.{Whole, Wrong, Short}
+use Rattle.records.specs.declared.heard.Heard.{Heard}
+use Rattle.reading.specs.declared.Stopped.{Stopped}
+use Rattle.reading.specs.Reading.{Format, Reading, cut_at, fault_at, read_from, stopped_at}
+use Rattle.readers.specs.declared.heard_input.HeardRead.{HeardRead}
+use Rattle.readers.specs.declared.heard_input.HeardInput.{HeardInput}
+use Rattle.readers.specs.declared.message_input.MessageRead.{MessageRead}
+use Rattle.readers.specs.declared.message_input.MessageInput.{MessageInput}
+use Rattle.speakall.specs.Plan as statement
 
 -- what is read of a whole input: its channel, if it has one, and the records after it
 pub record Input (A : Type 0) : Type 0 where
@@ -29,40 +23,40 @@ pub record Input (A : Type 0) : Type 0 where
   pub reading : Reading A
 
 -- with a channel, its records begin at byte 4; without one, nothing is read, and the fault is at byte 0
-abbrev pub inputFrom : {A : Type 0} → (statement.Channel → Format A) → List ℕ → Found statement.Channel → Input A
-inputFrom format bs (Whole c) = record { channel = Some c; reading = readFrom (format c) 0 4 0 (drop 4 bs) }
-inputFrom format bs (Wrong f) = record { channel = None; reading = record { given = []; ending = faultAt f 0 } }
-inputFrom format bs Short = record { channel = None; reading = record { given = []; ending = cutAt 0 } }
+abbrev pub input_from : {A : Type 0} → (statement.Channel → Format A) → List ℕ → Found statement.Channel → Input A
+input_from format bs (Whole c) = record { channel = Some c; reading = read_from (format c) 0 4 0 (drop 4 bs) }
+input_from format bs (Wrong f) = record { channel = None; reading = record { given = []; ending = fault_at f 0 } }
+input_from format bs Short = record { channel = None; reading = record { given = []; ending = cut_at 0 } }
 
 -- a whole input, whose records have a format by their channel
-abbrev pub readInput : {A : Type 0} → (statement.Channel → Format A) → List ℕ → Input A
-readInput format bs = inputFrom format bs (channelIn bs)
+abbrev pub read_input : {A : Type 0} → (statement.Channel → Format A) → List ℕ → Input A
+read_input format bs = input_from format bs (channel_in bs)
 
 -- where a reading stops that found no channel
-abbrev pub noChannel : Found Channel → Stopped
-noChannel (Whole c) = record { fault = FaultKind; byte = 0 }
-noChannel (Wrong f) = record { fault = f; byte = 0 }
-noChannel Short = record { fault = FaultKind; byte = 0 }
+abbrev pub no_channel : Found Channel → Stopped
+no_channel (Whole c) = record { fault = FaultKind; byte = 0 }
+no_channel (Wrong f) = record { fault = f; byte = 0 }
+no_channel Short = record { fault = FaultKind; byte = 0 }
 
 -- the statement's channel of a channel, if there is one
-abbrev pub settingsIf : Option Channel → Option statement.Channel
-settingsIf None = None
-settingsIf (Some c) = Some (settings c)
+abbrev pub settings_if : Option Channel → Option statement.Channel
+settings_if None = None
+settings_if (Some c) = Some (settings c)
 
 -- the records that are given, and the fault with its byte
 pub record HeardIs (h : HeardRead) (r : Reading Heard) : Type 0 where
-  pub given : vec-items (h .records) ≡ r .given
-  pub stopped : h .stopped ≡ stoppedAt (r .ending)
+  pub given : vec_items h.records ≡ r.given
+  pub stopped : h.stopped ≡ stopped_at r.ending
 
 pub record HeardInputIs (i : HeardInput) (r : Input Heard) : Type 0 where
-  pub channel : settingsIf (i .channel) ≡ r .channel
-  pub heard : HeardIs (i .heard) (r .reading)
+  pub channel : settings_if i.channel ≡ r.channel
+  pub heard : HeardIs i.heard r.reading
 
 -- the numbers of the messages that are given, one message after the other, and the fault with its byte
 pub record MessagesAre (m : MessageRead) (r : Reading (List ℕ)) : Type 0 where
-  pub given : vec-items (m .numbers) ≡ joined (λ (numbers : List ℕ). numbers) (r .given)
-  pub stopped : m .stopped ≡ stoppedAt (r .ending)
+  pub given : vec_items m.numbers ≡ flat_map (λ (numbers : List ℕ). numbers) r.given
+  pub stopped : m.stopped ≡ stopped_at r.ending
 
 pub record MessageInputIs (i : MessageInput) (r : Input (List ℕ)) : Type 0 where
-  pub channel : settingsIf (i .channel) ≡ r .channel
-  pub messages : MessagesAre (i .messages) (r .reading)
+  pub channel : settings_if i.channel ≡ r.channel
+  pub messages : MessagesAre i.messages r.reading

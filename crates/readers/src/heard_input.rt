@@ -1,18 +1,15 @@
 // What was heard on a channel, read from bytes.
-ghost use Rattle·faults.specs.declared.fault.Fault.the-variants.{Memory as FaultMemory};
-ghost use Rattle·readers·specs.Inputs.{HeardInputIs, HeardIs, readInput};
-ghost use Rattle·reading.specs.Formats.{heardFormat};
-ghost use Rattle·reading.specs.Reading.{FaultStays, LastLost, readFrom};
-ghost use Rattle·std.specs.Results.{Cases};
-ghost use mathlib.Core.Path.{_≡_};
+ghost use Rattle.faults.specs.declared.fault.Fault.TheVariants.{Memory as FaultMemory};
+ghost use Rattle.readers.specs.Inputs.{HeardInputIs, HeardIs, read_input};
+ghost use Rattle.reading.specs.Formats.{heard_format};
+ghost use Rattle.reading.specs.Reading.{FaultStays, LastLost, read_from};
+ghost use Rattle.std.specs.Prelude.{◌≡◌, MatchResult};
+
 use crate::no_channel::no_channel;
 use channels::Channel;
 use faults::Fault;
-use faults::fault::FaultFromRefused;
 use reading::Stopped;
-use records::Found;
-use records::Heard;
-use records::channel_first;
+use records::{Found, Heard, channel_first};
 use std::alloc::Global;
 
 // The records of what was heard, up to the end of the bytes or the first fault.
@@ -31,7 +28,7 @@ pub struct HeardInput {
 
 // The records of what was heard, one after the other.
 fn heard_to_end(heap: Global, channel: Channel, bytes: &[u8]) -> Result<HeardRead, Fault>
-    ensures { λ r. ⌜ Cases r (λ h. HeardIs h (readFrom (heardFormat (channel .q)) 0 4 0 (now (bytes .entry)))) (λ e. e ≡ FaultMemory) ⌝ }
+    ensures { MatchResult result (λ h. HeardIs h (read_from (heard_format channel.q) 0 4 0 bytes.now)) (λ e. e ≡ FaultMemory) }
 {
     let mut records = Vec::new(heap);
     let mut left = bytes;
@@ -65,9 +62,9 @@ fn heard_to_end(heap: Global, channel: Channel, bytes: &[u8]) -> Result<HeardRea
 // input. `Fault::Memory` where no memory is left for them. Bytes after a faulty record change nothing, and where the input is
 // cut, at most the last record that begins before the cut is lost.
 pub fn read_heard(heap: Global, channel: Channel, bytes: &[u8]) -> Result<HeardRead, Fault>
-    ensures read { λ r. ⌜ Cases r (λ h. HeardIs h (readFrom (heardFormat (channel .q)) 0 4 0 (now (bytes .entry)))) (λ e. e ≡ FaultMemory) ⌝ }
-    ensures stays { λ _. ⌜ FaultStays (heardFormat (channel .q)) ⌝ }
-    ensures lost { λ _. ⌜ LastLost (heardFormat (channel .q)) ⌝ }
+    ensures read { MatchResult result (λ h. HeardIs h (read_from (heard_format channel.q) 0 4 0 bytes.now)) (λ e. e ≡ FaultMemory) }
+    ensures stays { FaultStays (heard_format channel.q) }
+    ensures lost { LastLost (heard_format channel.q) }
 {
     heard_to_end(heap, channel, bytes)
 }
@@ -75,7 +72,7 @@ pub fn read_heard(heap: Global, channel: Channel, bytes: &[u8]) -> Result<HeardR
 // The channel of an input and what was heard on it. An input that does not begin with a channel's record is stopped at byte 0.
 // `Fault::Memory` where no memory is left for the records.
 pub fn read_heard_input(heap: Global, bytes: &[u8]) -> Result<HeardInput, Fault>
-    ensures { λ r. ⌜ Cases r (λ i. HeardInputIs i (readInput (λ c. heardFormat (c .q)) (now (bytes .entry)))) (λ e. e ≡ FaultMemory) ⌝ }
+    ensures { MatchResult result (λ i. HeardInputIs i (read_input (λ c. heard_format c.q) bytes.now)) (λ e. e ≡ FaultMemory) }
 {
     let found = channel_first(bytes);
     let Found::Whole(channel) = found else {

@@ -1,23 +1,18 @@
 // Messages to a sender, read from bytes.
-ghost use Rattle·channels.specs.Settings.{settings};
-ghost use Rattle·faults.specs.declared.fault.Fault.the-variants.{Memory as FaultMemory};
-ghost use Rattle·readers·specs.Inputs.{MessageInputIs, MessagesAre, readInput};
-ghost use Rattle·reading.specs.Formats.{messageFormat};
-ghost use Rattle·reading.specs.Reading.{FaultStays, LastLost, readFrom};
-ghost use Rattle·records.specs.Numbers.{numbersOf};
-ghost use Rattle·speakall.specs.Plan.{size};
-ghost use Rattle·std.specs.Of.Vec.{vec-items};
-ghost use Rattle·std.specs.Results.{Cases};
-ghost use mathlib.Core.List.{_++_};
-ghost use mathlib.Core.Path.{_≡_};
+ghost use Rattle.channels.specs.Settings.{settings};
+ghost use Rattle.faults.specs.declared.fault.Fault.TheVariants.{Memory as FaultMemory};
+ghost use Rattle.readers.specs.Inputs.{MessageInputIs, MessagesAre, read_input};
+ghost use Rattle.reading.specs.Formats.{message_format};
+ghost use Rattle.reading.specs.Reading.{FaultStays, LastLost, read_from};
+ghost use Rattle.records.specs.Numbers.{numbers_of};
+ghost use Rattle.speakall.specs.Plan.{size};
+ghost use Rattle.std.specs.Prelude.{◌≡◌, ◌++◌, MatchResult};
+
 use crate::no_channel::no_channel;
 use channels::Channel;
 use faults::Fault;
-use faults::fault::FaultFromRefused;
 use reading::Stopped;
-use records::Found;
-use records::channel_first;
-use records::message_first;
+use records::{Found, channel_first, message_first};
 use std::alloc::Global;
 
 // The numbers of the messages, one message after the other, up to the end of the bytes or the first fault.
@@ -36,7 +31,7 @@ pub struct MessageInput {
 
 // Puts the numbers in these bytes after those that are there, or tells that memory fails.
 fn add_numbers(numbers: &mut Vec<u32>, bytes: &[u8]) -> Result<(), Fault>
-    ensures { λ r. ⌜ Cases r (λ _. vec-items (now (numbers .exit)) ≡ vec-items (now (numbers .entry)) ++ numbersOf (now (bytes .entry))) (λ e. e ≡ FaultMemory) ⌝ }
+    ensures { MatchResult result (λ _. numbers.new.items ≡ numbers.old.items ++ numbers_of bytes.now) (λ e. e ≡ FaultMemory) }
 {
     let mut left = bytes;
     while let [a, b, c, d, rest @ ..] = left {
@@ -48,7 +43,7 @@ fn add_numbers(numbers: &mut Vec<u32>, bytes: &[u8]) -> Result<(), Fault>
 
 // The messages, one after the other.
 fn messages_to_end(heap: Global, channel: Channel, bytes: &[u8]) -> Result<MessageRead, Fault>
-    ensures { λ r. ⌜ Cases r (λ m. MessagesAre m (readFrom (messageFormat (size (settings channel))) 0 4 0 (now (bytes .entry)))) (λ e. e ≡ FaultMemory) ⌝ }
+    ensures { MatchResult result (λ m. MessagesAre m (read_from (message_format (size (settings channel))) 0 4 0 bytes.now)) (λ e. e ≡ FaultMemory) }
 {
     let mut numbers = Vec::new(heap);
     let mut left = bytes;
@@ -80,9 +75,9 @@ fn messages_to_end(heap: Global, channel: Channel, bytes: &[u8]) -> Result<Messa
 // memory is left for them. Bytes after a faulty record change nothing, and where the input is cut, at most the last record that
 // begins before the cut is lost.
 pub fn read_messages(heap: Global, channel: Channel, bytes: &[u8]) -> Result<MessageRead, Fault>
-    ensures read { λ r. ⌜ Cases r (λ m. MessagesAre m (readFrom (messageFormat (size (settings channel))) 0 4 0 (now (bytes .entry)))) (λ e. e ≡ FaultMemory) ⌝ }
-    ensures stays { λ _. ⌜ FaultStays (messageFormat (size (settings channel))) ⌝ }
-    ensures lost { λ _. ⌜ LastLost (messageFormat (size (settings channel))) ⌝ }
+    ensures read { MatchResult result (λ m. MessagesAre m (read_from (message_format (size (settings channel))) 0 4 0 bytes.now)) (λ e. e ≡ FaultMemory) }
+    ensures stays { FaultStays (message_format (size (settings channel))) }
+    ensures lost { LastLost (message_format (size (settings channel))) }
 {
     messages_to_end(heap, channel, bytes)
 }
@@ -90,7 +85,7 @@ pub fn read_messages(heap: Global, channel: Channel, bytes: &[u8]) -> Result<Mes
 // The channel of an input and the messages to a sender. An input that does not begin with a channel's record is stopped at byte 0.
 // `Fault::Memory` where no memory is left for the messages.
 pub fn read_message_input(heap: Global, bytes: &[u8]) -> Result<MessageInput, Fault>
-    ensures { λ r. ⌜ Cases r (λ i. MessageInputIs i (readInput (λ c. messageFormat (size c)) (now (bytes .entry)))) (λ e. e ≡ FaultMemory) ⌝ }
+    ensures { MatchResult result (λ i. MessageInputIs i (read_input (λ c. message_format (size c)) bytes.now)) (λ e. e ≡ FaultMemory) }
 {
     let found = channel_first(bytes);
     let Found::Whole(channel) = found else {

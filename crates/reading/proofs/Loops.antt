@@ -1,40 +1,35 @@
 -- The turns of a loop that reads records: what was read, and then what is left.
--- loop-more, left-more, loop-wrong, loop-short, loop-none. Assumes nothing.
-use mathlib.Core.Path.{_≡_, ap, _∙_, sym}
-use mathlib.Core.List.{List, [], _∷_, _++_}
-use Prim.Native.Nat.{ℕ, _+_, _-_, _<_, _≤_}
-use native.Mathlib.Omega.{arith}
-use lib.ListN.{length, take, drop}
-use Rattle·std.proofs.shelf.Lists.{append-assoc, append-nil, length-drop, take-rest}
-use Rattle·std.specs.declared.option.Option.the-variants.{Some, None}
-use Rattle·faults.specs.declared.fault.Fault.{Fault}
-use Rattle·faults.specs.declared.fault.Fault.the-variants.{Kind as FaultKind}
-use Rattle·records.specs.declared.found.Found.the-variants.{Whole, Wrong, Short}
-use Rattle·reading·specs.Reading.{Ending, Format, Reading, finished, cutAt, faultAt, onto, readFrom, stoppedAt}
-use Rattle·reading·proofs.Steps.{read-none, read-more, read-wrong, read-short}
-use Rattle·reading·proofs.Cuts.{Lawful}
+-- loop-more, left_more, loop-wrong, loop-short, loop-none. Assumes nothing.
+use Rattle.std.proofs.Common.{◌≡◌, ℕ, ◌+◌, ◌-◌, ◌<◌, ◌≤◌, List, [], ◌∷◌, ◌++◌, length, take, drop, Some, None, sym, ap, ◌∙◌, arith}
+use Rattle.std.proofs.lemmas.List.{append_assoc, append-nil, length-drop, take_rest}
+use Rattle.faults.specs.declared.fault.Fault.{Fault}
+use Rattle.faults.specs.declared.fault.Fault.TheVariants.{Kind as FaultKind}
+use Rattle.records.specs.declared.found.Found.TheVariants.{Whole, Wrong, Short}
+use Rattle.reading.specs.Reading.{Ending, Format, Reading, finished, cut_at, fault_at, onto, read_from, stopped_at}
+use Rattle.reading.proofs.Steps.{read_none, read_more, read_wrong, read_short}
+use Rattle.reading.proofs.Cuts.{Lawful}
 
-module _ {A : Type 0} (f : Format A) (law : Lawful f) (read : List A) (low byte : ℕ) (left : List ℕ) (all : Reading A) (so : onto read (readFrom f low byte 0 left) ≡ all) where
-  pub loop-more : (more : List A) (low' size : ℕ) (x : A) → f .first low left ≡ Whole x → more ≡ read ++ (x ∷ []) → low' ≡ f .after x → size ≡ f .size x →
-      onto more (readFrom f low' (byte + size) 0 (take (length left - size) (drop size left))) ≡ all
+module _ {A : Type 0} (f : Format A) (law : Lawful f) (read : List A) (low byte : ℕ) (left : List ℕ) (all : Reading A) (so : onto read (read_from f low byte 0 left) ≡ all) where
+  pub loop-more : (more : List A) (low' size : ℕ) (x : A) → f.first low left ≡ Whole x → more ≡ read ++ (x ∷ []) → low' ≡ f.after x → size ≡ f.size x →
+      onto more (read_from f low' (byte + size) 0 (take (length left - size) (drop size left))) ≡ all
   loop-more more low' size x o m a s =
-      let z = law .sized low left x o in
-      let step = read-more f low byte left x (z .0) (z .1) o in
-      rw (m, a, s, take-rest left (f .size x), append-assoc read (x ∷ []) (readFrom f (f .after x) (byte + f .size x) 0 (drop (f .size x) left) .given)) (ap (onto read) (sym step) ∙ so)
+      let z = law.sized low left x o in
+      let step = read_more f low byte left x z.0 z.1 o in
+      rw (m, a, s, take_rest left (f.size x), append_assoc read (x ∷ []) (read_from f (f.after x) (byte + f.size x) 0 (drop (f.size x) left)).given) (ap (onto read) (sym step) ∙ so)
 
   -- where a reading ends, all was read
-  ended : (e : Ending) → readFrom f low byte 0 left ≡ record { given = []; ending = e } → (read ≡ all .given) × (all .ending ≡ e)
-  ended e h = (sym (append-nil read) ∙ ap (λ (r : Reading A). read ++ r .given) (sym h) ∙ ap (λ r. r .given) so, sym (ap (λ r. r .ending) so) ∙ ap (λ r. r .ending) h)
+  ended : (e : Ending) → read_from f low byte 0 left ≡ record { given = []; ending = e } → (read ≡ all.given) × (all.ending ≡ e)
+  ended e h = (sym (append-nil read) ∙ ap (λ (r : Reading A). read ++ r.given) (sym h) ∙ ap (λ r. r.given) so, sym (ap (λ r. r.ending) so) ∙ ap (λ r. r.ending) h)
 
-  pub loop-wrong : (g : Fault) → 0 < length left → f .first low left ≡ Wrong g → (read ≡ all .given) × (Some (record { fault = g; byte = byte }) ≡ stoppedAt (all .ending))
-  loop-wrong g p o = let w = ended (faultAt g byte) (read-wrong f low byte left g p o) in (w .0, ap stoppedAt (sym (w .1)))
+  pub loop-wrong : (g : Fault) → 0 < length left → f.first low left ≡ Wrong g → (read ≡ all.given) × (Some (record { fault = g; byte = byte }) ≡ stopped_at all.ending)
+  loop-wrong g p o = let w = ended (fault_at g byte) (read_wrong f low byte left g p o) in (w.0, ap stopped_at (sym w.1))
 
-  pub loop-short : 0 < length left → f .first low left ≡ Short → (read ≡ all .given) × (Some (record { fault = FaultKind; byte = byte }) ≡ stoppedAt (all .ending))
-  loop-short p o = let w = ended (cutAt byte) (read-short f low byte left p o) in (w .0, ap stoppedAt (sym (w .1)))
+  pub loop-short : 0 < length left → f.first low left ≡ Short → (read ≡ all.given) × (Some (record { fault = FaultKind; byte = byte }) ≡ stopped_at all.ending)
+  loop-short p o = let w = ended (cut_at byte) (read_short f low byte left p o) in (w.0, ap stopped_at (sym w.1))
 
-  pub loop-none : length left ≡ 0 → (read ≡ all .given) × (None ≡ stoppedAt (all .ending))
-  loop-none z = let w = ended finished (read-none f low byte left z) in (w .0, ap stoppedAt (sym (w .1)))
+  pub loop-none : length left ≡ 0 → (read ≡ all.given) × (None ≡ stopped_at all.ending)
+  loop-none z = let w = ended finished (read_none f low byte left z) in (w.0, ap stopped_at (sym w.1))
 
 -- the bytes read and those left are all
-pub left-more : (left : List ℕ) (byte size whole : ℕ) → size ≤ length left → byte + length left ≡ whole → byte + size + length (take (length left - size) (drop size left)) ≡ whole
-left-more left byte size whole h e = simp (take-rest, length-drop) (omega arith)
+pub left_more : (left : List ℕ) (byte size whole : ℕ) → size ≤ length left → byte + length left ≡ whole → byte + size + length (take (length left - size) (drop size left)) ≡ whole
+left_more left byte size whole h e = simp (take_rest, length-drop) (omega arith)

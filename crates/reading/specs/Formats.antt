@@ -1,16 +1,15 @@
 -- The two kinds of records that stand one after the other, behind the record of a channel.
--- heardFormat, messageFormat. Assumes nothing.
-use mathlib.Core.List.{List}
-use Prim.Native.Nat.{ℕ}
-use Rattle·records.specs.declared.heard.Heard.{Heard}
-use Rattle·records.specs.Hearing.{afterHeard, heardIn, heardSize}
-use Rattle·records.specs.Messages.{messageIn, messageSize}
-use Rattle·reading·specs.Reading.{Format}
+-- heard_format, message_format. Assumes nothing.
+use Rattle.std.specs.Prelude.{ℕ, List}
+use Rattle.records.specs.declared.heard.Heard.{Heard}
+use Rattle.records.specs.Hearing.{after_heard, heard_in, heard_size}
+use Rattle.records.specs.Messages.{message_in, message_size}
+use Rattle.reading.specs.Reading.{Format}
 
 -- what was heard, on a channel with q parts: each record in a higher place than the one before
-abbrev pub heardFormat : (q : ℕ) → Format Heard
-heardFormat q = record { first = heardIn q; size = heardSize; after = afterHeard }
+abbrev pub heard_format : (q : ℕ) → Format Heard
+heard_format q = record { first = heard_in q; size = heard_size; after = after_heard }
 
 -- messages of s numbers, in any order
-abbrev pub messageFormat : (s : ℕ) → Format (List ℕ)
-messageFormat s = record { first = λ low. messageIn s; size = messageSize; after = λ numbers. 0 }
+abbrev pub message_format : (s : ℕ) → Format (List ℕ)
+message_format s = record { first = λ low. message_in s; size = message_size; after = λ numbers. 0 }

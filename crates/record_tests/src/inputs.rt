@@ -1,11 +1,9 @@
 // Inputs, whole and in pieces: how many records are read, the fault's number (0 for none) and its byte.
-use faults::fault::FaultDebug;
 use pieces::read_pieces;
-use readers::read_heard_input;
-use readers::read_message_input;
+use readers::{read_heard_input, read_message_input};
 use reading::Stopped;
 use std::alloc::Global;
-use std::test::*;
+use std::test::Fail;
 
 fn stop(stopped: Option<Stopped>) -> (u8, u64) {
     match stopped {
@@ -45,7 +43,7 @@ fn message_whole(heap: Global, bytes: &[u8]) -> Result<(usize, u8, u64), Fail> {
 
 // No channel: an empty input, a cut one, another kind, one that isn't in the list; and a channel alone.
 #[test]
-fn channels(rt: LibcRuntime) -> Result<(), Fail> {
+fn channels(rt: HostRuntime) -> Result<(), Fail> {
     let heap = rt.alloc();
     let rows: [(&[u8], u8); 5] = [
         (b"", 1),
@@ -55,16 +53,16 @@ fn channels(rt: LibcRuntime) -> Result<(), Fail> {
         (b"\x01\x05\x02\x02", 0),
     ];
     for (bytes, fault) in rows {
-        check_eq(heard_whole(heap, bytes)?, (0, fault, 0))?;
-        check_eq(heard_in_pieces(heap, bytes, 1)?, (0, fault, 0))?;
-        check_eq(message_whole(heap, bytes)?, (0, fault, 0))?;
+        assert_eq!(rt; heard_whole(heap, bytes)?, (0, fault, 0));
+        assert_eq!(rt; heard_in_pieces(heap, bytes, 1)?, (0, fault, 0));
+        assert_eq!(rt; message_whole(heap, bytes)?, (0, fault, 0));
     }
     Ok(())
 }
 
 // What was heard on the channel 5 2 2, whose parts and slots are 0 to 4.
 #[test]
-fn heard(rt: LibcRuntime) -> Result<(), Fail> {
+fn heard(rt: HostRuntime) -> Result<(), Fail> {
     let heap = rt.alloc();
     let rows: [(&[u8], (usize, u8, u64)); 14] = [
         (b"\x03\x00\x00\x00\x01\x04\x04\x02", (1, 0, 0)),
@@ -99,9 +97,9 @@ fn heard(rt: LibcRuntime) -> Result<(), Fail> {
     ];
     for (bytes, answer) in rows {
         let input = with_channel(heap, bytes)?;
-        check_eq(heard_whole(heap, &input)?, answer)?;
+        assert_eq!(rt; heard_whole(heap, &input)?, answer);
         for size in [1, 3, 8, 64] {
-            check_eq(heard_in_pieces(heap, &input, size)?, answer)?;
+            assert_eq!(rt; heard_in_pieces(heap, &input, size)?, answer);
         }
     }
     Ok(())
@@ -109,7 +107,7 @@ fn heard(rt: LibcRuntime) -> Result<(), Fail> {
 
 // Messages of three numbers below 2^30.
 #[test]
-fn messages(rt: LibcRuntime) -> Result<(), Fail> {
+fn messages(rt: HostRuntime) -> Result<(), Fail> {
     let heap = rt.alloc();
     let rows: [(&[u8], (usize, u8, u64)); 7] = [
         (
@@ -140,7 +138,7 @@ fn messages(rt: LibcRuntime) -> Result<(), Fail> {
     ];
     for (bytes, answer) in rows {
         let input = with_channel(heap, bytes)?;
-        check_eq(message_whole(heap, &input)?, answer)?;
+        assert_eq!(rt; message_whole(heap, &input)?, answer);
     }
     Ok(())
 }

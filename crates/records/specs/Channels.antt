@@ -1,26 +1,23 @@
 -- The record of a channel.
--- bytesOfChannel, Numbers, channelIn, IsChannel. Assumes nothing.
-use mathlib.Core.Bool.{cond}
-use mathlib.Core.List.{List, [], _∷_}
-use Prim.Native.Nat.{ℕ}
-use lib.ListN.{getD}
-use Rattle·channels.specs.declared.channel.Channel.{Channel}
-use Rattle·faults.specs.declared.fault.Fault.the-variants.{Channel as FaultChannel}
-use Rattle·channels.specs.Settings.{settings}
-use Rattle·channels.specs.Valid.{isValid}
-use Rattle·records·specs.Kinds.{ofKind}
-use Rattle·records·specs.declared.found.Found.{Found}
-use Rattle·records·specs.declared.found.Found.the-variants.{Whole, Wrong, Short}
-use Rattle·speakall.specs.Plan as statement
+-- bytes_of_channel, Numbers, channel_in, IsChannel. Assumes nothing.
+use Rattle.std.specs.Prelude.{ℕ, cond, List, [], ◌∷◌, slice_index}
+use Rattle.channels.specs.declared.channel.Channel.{Channel}
+use Rattle.faults.specs.declared.fault.Fault.TheVariants.{Channel as FaultChannel}
+use Rattle.channels.specs.Settings.{settings}
+use Rattle.channels.specs.Valid.{is_valid}
+use Rattle.records.specs.Kinds.{of_kind}
+use Rattle.records.specs.declared.found.Found.{Found}
+use Rattle.records.specs.declared.found.Found.TheVariants.{Whole, Wrong, Short}
+use Rattle.speakall.specs.Plan as statement
 
 -- the byte 1, then q, d and k
-abbrev pub bytesOfChannel : (q d k : ℕ) → List ℕ
-bytesOfChannel q d k = 1 ∷ q ∷ d ∷ k ∷ []
+abbrev pub bytes_of_channel : (q d k : ℕ) → List ℕ
+bytes_of_channel q d k = 1 ∷ q ∷ d ∷ k ∷ []
 
 -- the settings of the channel that stands first in some bytes: whole by its kind and length first, and then a channel
-abbrev pub channelIn : List ℕ → Found statement.Channel
-channelIn bs =
-    ofKind 1 4 bs (cond (isValid (getD bs 1 0) (getD bs 2 0) (getD bs 3 0)) (Whole (record { q = getD bs 1 0; d = getD bs 2 0; k = getD bs 3 0 })) (Wrong FaultChannel))
+abbrev pub channel_in : List ℕ → Found statement.Channel
+channel_in bs =
+    of_kind 1 4 bs (cond (is_valid (slice_index bs 1) (slice_index bs 2) (slice_index bs 3)) (Whole (record { q = slice_index bs 1; d = slice_index bs 2; k = slice_index bs 3 })) (Wrong FaultChannel))
 
 -- the code's channel has these settings
 abbrev pub settled : Found Channel → Found statement.Channel

@@ -1,40 +1,36 @@
 -- The record of a message to a sender.
--- messageSize, bytesOfMessage, countIn, numbersAfter, sized, messageIn. Assumes nothing.
-use mathlib.Core.Bool.{cond, _&&_}
-use mathlib.Core.List.{List, _∷_}
-use Prim.Native.Nat.{ℕ, _+_, _*_}
-use lib.Dec.{eqb, ltb}
-use lib.ListN.{length, getD, take, drop}
-use Rattle·faults.specs.declared.fault.Fault.the-variants.{Message as FaultMessage}
-use Rattle·records·specs.Kinds.{ofKind}
-use Rattle·records·specs.declared.found.Found.{Found}
-use Rattle·records·specs.declared.found.Found.the-variants.{Whole, Wrong, Short}
-use Rattle·records·specs.Numbers.{numbersOf, bytesOfNumbers, areSmall}
+-- message_size, bytes_of_message, count_in, numbers_after, sized, message_in. Assumes nothing.
+use Rattle.std.specs.Prelude.{ℕ, ◌+◌, ◌*◌, cond, ◌&&◌, List, ◌∷◌, length, take, drop, ◌==◌, nat_lt, slice_index}
+use Rattle.faults.specs.declared.fault.Fault.TheVariants.{Message as FaultMessage}
+use Rattle.records.specs.Kinds.{of_kind}
+use Rattle.records.specs.declared.found.Found.{Found}
+use Rattle.records.specs.declared.found.Found.TheVariants.{Whole, Wrong, Short}
+use Rattle.records.specs.Numbers.{numbers_of, bytes_of_numbers, are_small}
 
 -- how many bytes the record of a message has
-abbrev pub messageSize : List ℕ → ℕ
-messageSize numbers = 2 + 4 * length numbers
+abbrev pub message_size : List ℕ → ℕ
+message_size numbers = 2 + 4 * length numbers
 
 -- the byte 2, how many numbers, and the numbers
-abbrev pub bytesOfMessage : List ℕ → List ℕ
-bytesOfMessage numbers = 2 ∷ length numbers ∷ bytesOfNumbers numbers
+abbrev pub bytes_of_message : List ℕ → List ℕ
+bytes_of_message numbers = 2 ∷ length numbers ∷ bytes_of_numbers numbers
 
 -- how many numbers the message has that stands first in some bytes, by its kind and length
-abbrev pub countIn : List ℕ → Found ℕ
-countIn bs = ofKind 2 2 bs (cond (ltb (length bs) (2 + 4 * getD bs 1 0)) Short (Whole (getD bs 1 0)))
+abbrev pub count_in : List ℕ → Found ℕ
+count_in bs = of_kind 2 2 bs (cond (nat_lt (length bs) (2 + 4 * slice_index bs 1)) Short (Whole (slice_index bs 1)))
 
 -- as many numbers as were found stand after the first two bytes
-abbrev pub numbersAfter : List ℕ → Found ℕ → Found (List ℕ)
-numbersAfter bs (Whole n) = Whole (numbersOf (take (4 * n) (drop 2 bs)))
-numbersAfter bs (Wrong f) = Wrong f
-numbersAfter bs Short = Short
+abbrev pub numbers_after : List ℕ → Found ℕ → Found (List ℕ)
+numbers_after bs (Whole n) = Whole (numbers_of (take (4 * n) (drop 2 bs)))
+numbers_after bs (Wrong f) = Wrong f
+numbers_after bs Short = Short
 
 -- a message has s numbers below 2^30
 abbrev pub sized : (s : ℕ) → List ℕ → Found ℕ → Found (List ℕ)
-sized s bs (Whole n) = cond (eqb n s && areSmall (numbersOf (take (4 * n) (drop 2 bs)))) (Whole (numbersOf (take (4 * n) (drop 2 bs)))) (Wrong FaultMessage)
+sized s bs (Whole n) = cond (n == s && are_small (numbers_of (take (4 * n) (drop 2 bs)))) (Whole (numbers_of (take (4 * n) (drop 2 bs)))) (Wrong FaultMessage)
 sized s bs (Wrong f) = Wrong f
 sized s bs Short = Short
 
 -- the message that stands first in some bytes, of s numbers: whole by its kind and length first, and then its numbers
-abbrev pub messageIn : (s : ℕ) → List ℕ → Found (List ℕ)
-messageIn s bs = sized s bs (countIn bs)
+abbrev pub message_in : (s : ℕ) → List ℕ → Found (List ℕ)
+message_in s bs = sized s bs (count_in bs)

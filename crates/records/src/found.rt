@@ -1,7 +1,5 @@
 // What stands first in some bytes.
 use faults::Fault;
-use faults::fault::FaultDebug;
-use faults::fault::FaultPartialEq;
 
 #[derive(Clone, Copy, PartialEq, Eq, Debug)]
 pub enum Found<T> {

@@ -1,13 +1,10 @@
 // What was heard in a slot that isn't silent: the byte 3, the frame (4), the part (1), the slot (1), what it was
 // (1: 1 a word, 2 noise), and the twelve bytes of a word.
-ghost use Prim.Native.Nat.{ℕ, _<_};
-ghost use Rattle·records·specs.Hearing.{bytesIn, bytesOfHeard, heardIn, heardSize, ordered, placeOf, wholeIn};
-ghost use Rattle·records·specs.Numbers.{fourBytes};
-ghost use Rattle·records·specs.declared.found.Found.the-variants.{Whole};
-ghost use Rattle·std.specs.Options.{Cases as BySome};
-ghost use lib.ListN.{length, take};
-ghost use mathlib.Core.List.{List, [], _++_, _∷_};
-ghost use mathlib.Core.Path.{_≡_};
+ghost use Rattle.std.specs.Prelude.{◌≡◌, ℕ, ◌<◌, List, [], ◌∷◌, ◌++◌, length, take, MatchOption};
+ghost use Rattle.records.specs.Hearing.{bytes_in, bytes_of_heard, heard_in, heard_size, ordered, place_of, whole_in};
+ghost use Rattle.records.specs.Numbers.{four_bytes};
+ghost use Rattle.records.specs.declared.found.Found.TheVariants.{Whole};
+
 use crate::found::Found;
 use channels::Channel;
 use faults::Fault;
@@ -44,7 +41,7 @@ pub enum HeardBytes {
 
 // The twelve bytes of a word that these bytes begin with; none where there are fewer.
 fn word_in(bytes: &[u8]) -> Option<[u8; 12]>
-    ensures { λ r. ⌜ BySome r (length (now (bytes .entry)) < 12) (λ w. w ≡ take 12 (now (bytes .entry))) ⌝ }
+    ensures { MatchOption result (length bytes.now < 12) (λ w. w ≡ take 12 bytes.now) }
 {
     let [a, b, c, d, e, f, g, h, i, j, k, l, ..] = bytes else {
         return None;
@@ -54,7 +51,7 @@ fn word_in(bytes: &[u8]) -> Option<[u8; 12]>
 
 // The record that stands first in these bytes, by its kind and length.
 fn whole_in(bytes: &[u8]) -> Found<Heard>
-    ensures { λ r. ⌜ r ≡ wholeIn (now (bytes .entry)) ⌝ }
+    ensures { result ≡ whole_in bytes.now }
 {
     let Some(kind) = bytes.first() else {
         return Found::Short;
@@ -84,14 +81,14 @@ fn whole_in(bytes: &[u8]) -> Found<Heard>
 impl Heard {
     // The place of the record in the order of frame, part and slot.
     pub fn place(self) -> u64
-        ensures { λ r. ⌜ r ≡ placeOf self ⌝ }
+        ensures { result ≡ place_of self }
     {
         u64::from(self.frame) * 65536 + u64::from(self.part) * 256 + u64::from(self.slot)
     }
 
     // How many bytes the record has.
     pub fn size(self) -> usize
-        ensures { λ r. ⌜ r ≡ heardSize self ⌝ }
+        ensures { result ≡ heard_size self }
     {
         match self.what {
             What::Word(_) => 20,
@@ -101,7 +98,7 @@ impl Heard {
 
     // The record if its part and slot are there and its place is `low` or above; else `Fault::Order`.
     fn checked(self, channel: Channel, low: u64) -> Found<Heard>
-        ensures { λ r. ⌜ r ≡ ordered (channel .q) low self ⌝ }
+        ensures { result ≡ ordered channel.q low self }
     {
         if self.part < channel.parts() && self.slot < channel.parts() && self.place() >= low {
             Found::Whole(self)
@@ -113,7 +110,7 @@ impl Heard {
     // The record that stands first in these bytes on a channel, where its place must be `low` or above: `Fault::Kind` for
     // another kind, and then `Fault::Order`.
     pub fn first(channel: Channel, low: u64, bytes: &[u8]) -> Found<Heard>
-        ensures { λ r. ⌜ r ≡ heardIn (channel .q) low (now (bytes .entry)) ⌝ }
+        ensures { result ≡ heard_in channel.q low bytes.now }
     {
         match whole_in(bytes) {
             Found::Whole(heard) => heard.checked(channel, low),
@@ -124,7 +121,7 @@ impl Heard {
 
     // The eight bytes that stand before a word, and that noise has alone.
     fn head(self, what: u8) -> [u8; 8]
-        ensures { λ r. ⌜ r ≡ 3 ∷ (fourBytes (self .frame) ++ (self .part ∷ self .slot ∷ what ∷ [])) ⌝ }
+        ensures { result ≡ 3 ∷ (four_bytes self.frame ++ (self.part ∷ self.slot ∷ what ∷ [])) }
     {
         let [a, b, c, d] = self.frame.to_be_bytes();
         [HEARD, a, b, c, d, self.part, self.slot, what]
@@ -132,8 +129,8 @@ impl Heard {
 
     // The bytes of the record, in their order.
     fn laid_out(self) -> HeardBytes
-        ensures bytes { λ r. ⌜ bytesIn r ≡ bytesOfHeard self ⌝ }
-        ensures size { λ r. ⌜ length (bytesIn r) ≡ heardSize self ⌝ }
+        ensures bytes { bytes_in result ≡ bytes_of_heard self }
+        ensures size { length (bytes_in result) ≡ heard_size self }
     {
         match self.what {
             What::Word(word) => HeardBytes::Word(joined(self.head(WORD), word)),
@@ -143,9 +140,9 @@ impl Heard {
 
     // The bytes of the record. Whatever follows them, the record is read back.
     pub fn to_bytes(self) -> HeardBytes
-        ensures bytes { λ r. ⌜ bytesIn r ≡ bytesOfHeard self ⌝ }
-        ensures size { λ r. ⌜ length (bytesIn r) ≡ heardSize self ⌝ }
-        ensures back { λ r. ⌜ ((more : List ℕ) → wholeIn (bytesIn r ++ more) ≡ Whole self) ⌝ }
+        ensures bytes { bytes_in result ≡ bytes_of_heard self }
+        ensures size { length (bytes_in result) ≡ heard_size self }
+        ensures back { (more : List ℕ) → whole_in (bytes_in result ++ more) ≡ Whole self }
     {
         self.laid_out()
     }
@@ -153,7 +150,7 @@ impl Heard {
 
 // Eight bytes and then twelve.
 fn joined(head: [u8; 8], word: [u8; 12]) -> [u8; 20]
-    ensures { λ r. ⌜ r ≡ head ++ word ⌝ }
+    ensures { result ≡ head ++ word }
 {
     let [a, b, c, d, e, f, g, h] = head;
     let [i, j, k, l, m, n, o, p, q, r, s, t] = word;

@@ -1,17 +1,15 @@
 // One record of what goes into a program, as bytes, high byte first: a channel, a message to a sender, what was heard in a slot.
 // All of it works by value and on lent memory, and allocates nothing.
+#![tactic(auto)]
+
 pub mod channel_record;
 pub mod found;
 pub mod heard;
 pub mod message;
 pub mod numbers;
 
-pub use channel_record::channel_bytes;
-pub use channel_record::channel_first;
+pub use channel_record::{channel_bytes, channel_first};
 pub use found::Found;
-pub use heard::Heard;
-pub use heard::HeardBytes;
-pub use heard::What;
-pub use message::message_first;
-pub use message::message_head;
+pub use heard::{Heard, HeardBytes, What};
+pub use message::{message_first, message_head};
 pub use numbers::are_small;

@@ -1,10 +1,10 @@
 // A message to a sender: the byte 2, how many numbers it has (1), and the numbers (4 each).
-ghost use Rattle·channels.specs.Settings.{settings};
-ghost use Rattle·records·specs.Messages.{countIn, messageIn, numbersAfter};
-ghost use Rattle·records·specs.declared.found.Found.the-variants.{Short, Whole, Wrong};
-ghost use Rattle·speakall.specs.Plan.{size};
-ghost use mathlib.Core.List.{[], _∷_};
-ghost use mathlib.Core.Path.{_≡_};
+ghost use Rattle.channels.specs.Settings.{settings};
+ghost use Rattle.records.specs.Messages.{count_in, message_in, numbers_after};
+ghost use Rattle.records.specs.declared.found.Found.TheVariants.{Short, Whole, Wrong};
+ghost use Rattle.speakall.specs.Plan.{size};
+ghost use Rattle.std.specs.Prelude.{◌≡◌, [], ◌∷◌};
+
 use crate::found::Found;
 use crate::numbers::are_small;
 use channels::Channel;
@@ -15,14 +15,14 @@ const MESSAGE: u8 = 2;
 
 // The two bytes that stand before the numbers of a message.
 pub fn message_head(count: u8) -> [u8; 2]
-    ensures { λ r. ⌜ r ≡ 2 ∷ count ∷ [] ⌝ }
+    ensures { result ≡ 2 ∷ count ∷ [] }
 {
     [MESSAGE, count]
 }
 
 // How many numbers the message has that stands first in these bytes, by its kind and length.
 fn count_in(bytes: &[u8]) -> Found<u8>
-    ensures { λ r. ⌜ r ≡ countIn (now (bytes .entry)) ⌝ }
+    ensures { result ≡ count_in bytes.now }
 {
     let Some(kind) = bytes.first() else {
         return Found::Short;
@@ -42,8 +42,8 @@ fn count_in(bytes: &[u8]) -> Found<u8>
 // How many numbers the message has that stands first in these bytes: `Fault::Kind` for another kind, and then `Fault::Message`
 // where it has not as many numbers as the channel's messages, or one of 2^30 or above.
 pub fn message_first(channel: Channel, bytes: &[u8]) -> Found<u8>
-    ensures numbers { λ r. ⌜ numbersAfter (now (bytes .entry)) r ≡ messageIn (size (settings channel)) (now (bytes .entry)) ⌝ }
-    ensures count { λ r. ⌜ elim r [ Whole n ↦ n ≡ size (settings channel) | Wrong _ ↦ Unit {0} | Short ↦ Unit {0} ] ⌝ }
+    ensures numbers { numbers_after bytes.now result ≡ message_in (size (settings channel)) bytes.now }
+    ensures count { elim result [ Whole n ↦ n ≡ size (settings channel) | Wrong _ ↦ Unit {0} | Short ↦ Unit {0} ] }
 {
     let found = count_in(bytes);
     let Found::Whole(count) = found else {

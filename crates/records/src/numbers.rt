@@ -1,13 +1,13 @@
 // Numbers of four bytes, one after the other.
-ghost use Rattle·records·specs.Numbers.{areSmall, numbersOf};
-ghost use mathlib.Core.Path.{_≡_};
+ghost use Rattle.records.specs.Numbers.{are_small, numbers_of};
+ghost use Rattle.std.specs.Prelude.{◌≡◌};
 
 // The numbers of a message are below 2^30.
 const LIMIT: u32 = 1073741824;
 
 // Whether the numbers in these bytes are all below 2^30.
 pub fn are_small(bytes: &[u8]) -> bool
-    ensures { λ r. ⌜ r ≡ areSmall (numbersOf (now (bytes .entry))) ⌝ }
+    ensures { result ≡ are_small (numbers_of bytes.now) }
 {
     let mut left = bytes;
     while let [a, b, c, d, rest @ ..] = left {

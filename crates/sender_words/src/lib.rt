@@ -1,19 +1,19 @@
 // The word of one sender on a command line, as `7` or `7=10,1,0`: its number, and the message that it says.
+#![tactic(auto)]
+
 mod pieces;
 mod spoken;
 
-pub use spoken::Spoken;
-pub use spoken::Wrong;
-pub use spoken::spoken_of;
+pub use spoken::{Spoken, Wrong, spoken_of};
 
 // A word with a message, and words that are wrong.
 #[cfg(test)]
 mod tests {
     use super::*;
-    use std::test::*;
+    use std::test::Fail;
 
     #[test]
-    fn words(rt: LibcRuntime) -> Result<(), Fail> {
+    fn words(rt: HostRuntime) -> Result<(), Fail> {
         let Ok(spoken) = spoken_of(rt.alloc(), "+7=10,1") else {
             return Err(Fail::new("it is a sender"));
         };
@@ -21,9 +21,10 @@ mod tests {
         let Some(message) = message else {
             return Err(Fail::new("it has a message"));
         };
-        check(number == 7 && message.len() == 2)?;
+        assert!(rt; number == 7 && message.len() == 2);
         let name = spoken_of(rt.alloc(), "-1");
         let list = spoken_of(rt.alloc(), "7=1,,x");
-        check(matches!(name, Err(Wrong::NoSender)) && matches!(list, Err(Wrong::NoMessage)))
+        assert!(rt; matches!(name, Err(Wrong::NoSender)) && matches!(list, Err(Wrong::NoMessage)));
+        Ok(())
     }
 }

@@ -1,17 +1,15 @@
 // A text cut at a character, and the numbers between its commas.
-ghost use Prim.Native.Nat.{_<_};
-ghost use Rattle·sender_words·specs.Pieces.{Listed, after, lent, upTo};
-ghost use Rattle·std.specs.Vec.{made};
-ghost use mathlib.Core.Path.{_≡_};
+ghost use Rattle.std.specs.Prelude.{◌≡◌, ◌<◌, IfOk};
+ghost use Rattle.sender_words.specs.Pieces.{Listed, after, lent, up_to};
+
 use command_words::number;
-use std::alloc::AllocError;
-use std::alloc::Global;
+use std::alloc::{AllocError, Global};
 
 // What stands before the first such character, and what stands after it, if there is one.
 pub fn cut(text: &str, at: char) -> (&str, Option<&str>)
-    requires { ⌜ at < 128 ⌝ }
-    ensures front { λ r. ⌜ now (r .0) ≡ upTo at (now (text .entry)) ⌝ }
-    ensures back { λ r. ⌜ lent (r .1) ≡ after at (now (text .entry)) ⌝ }
+    requires { at < 128 }
+    ensures front { result.0.now ≡ up_to at text.now }
+    ensures back { lent result.1 ≡ after at text.now }
 {
     match text.split_once(at) {
         Some((front, back)) => (front, Some(back)),
@@ -21,7 +19,7 @@ pub fn cut(text: &str, at: char) -> (&str, Option<&str>)
 
 // The numbers between the commas of a text; none where one of them is no number.
 pub fn listed(heap: Global, text: &str) -> Result<Option<Vec<u64>>, AllocError>
-    ensures { λ r. ⌜ made r (λ o. Listed (now (text .entry)) o) ⌝ }
+    ensures { IfOk result (λ o. Listed text.now o) }
 {
     let mut numbers = Vec::new(heap);
     let mut rest = text;

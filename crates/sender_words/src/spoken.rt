@@ -1,13 +1,12 @@
 // What the word of one sender gives: its number, and its message where one is written.
-ghost use Rattle·sender_words·specs.Pieces.{lent};
-ghost use Rattle·sender_words·specs.Spoken.{MessageIn, Speaks};
-ghost use Rattle·sender_words·specs.declared.spoken.Wrong.the-variants.{Memory};
-ghost use mathlib.Core.Path.{_≡_};
-use crate::pieces::cut;
-use crate::pieces::listed;
+ghost use Rattle.sender_words.specs.Pieces.{lent};
+ghost use Rattle.sender_words.specs.Spoken.{MessageIn, Speaks};
+ghost use Rattle.sender_words.specs.declared.spoken.Wrong.TheVariants.{Memory};
+ghost use Rattle.std.specs.Prelude.{◌≡◌};
+
+use crate::pieces::{cut, listed};
 use command_words::number;
-use std::alloc::AllocError;
-use std::alloc::Global;
+use std::alloc::{AllocError, Global};
 
 // One sender's word: its number, and the message if one is given. As wide as they were written.
 #[derive(Drop)]
@@ -26,8 +25,8 @@ pub enum Wrong {
     Memory,
 }
 
-pub impl From<AllocError> for Wrong as WrongFromAlloc {
-    ghost converts = { λ _ r. r ≡ Memory };
+impl From<AllocError> for Wrong {
+    ghost from_gives = { λ _ r. r ≡ Memory };
 
     fn from(_e: AllocError) -> Wrong {
         Wrong::Memory
@@ -36,7 +35,7 @@ pub impl From<AllocError> for Wrong as WrongFromAlloc {
 
 // The message in what stands after `=`, if anything does.
 fn message_in(heap: Global, list: Option<&str>) -> Result<Option<Vec<u64>>, Wrong>
-    ensures { λ r. ⌜ MessageIn (lent (list .entry)) r ⌝ }
+    ensures { MessageIn (lent list.entry) result }
 {
     let Some(list) = list else {
         return Ok(None);
@@ -49,7 +48,7 @@ fn message_in(heap: Global, list: Option<&str>) -> Result<Option<Vec<u64>>, Wron
 
 // The sender that a word gives, with its message.
 pub fn spoken_of(heap: Global, text: &str) -> Result<Spoken, Wrong>
-    ensures { λ r. ⌜ Speaks (now (text .entry)) r ⌝ }
+    ensures { Speaks text.now result }
 {
     let (name, list) = cut(text, '=');
     let Some(number) = number(name) else {

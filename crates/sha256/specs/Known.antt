@@ -1,10 +1,7 @@
 -- Digests of three messages, written out: none of its bytes, the standard's first example, and nine bytes.
 -- Known. Assumes nothing.
-use mathlib.Core.Path.{_≡_}
-use mathlib.Core.List.{[], _∷_}
-use lib.Chars.{codes}
-use lib.ListN.{take}
-use Rattle·sha256·specs.Hash.{digest}
+use Rattle.std.specs.Prelude.{◌≡◌, [], ◌∷◌, take, codes}
+use Rattle.sha256.specs.Hash.{digest}
 
 pub record Known : Type 0 where
   pub empty : digest [] ≡

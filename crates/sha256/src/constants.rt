@@ -1,7 +1,7 @@
 // The constants of SHA-256: the first 32 bits of the fractions of the cube roots of the first 64 primes,
 // and of the square roots of the first eight.
-ghost use Rattle·sha256·specs.Constants.{initial, constants as standard};
-ghost use mathlib.Core.Path.{_≡_};
+ghost use Rattle.sha256.specs.Constants.{initial, constants as standard};
+ghost use Rattle.std.specs.Prelude.{◌≡◌};
 
 const K: [u32; 64] = [
     0x428a_2f98,
@@ -83,14 +83,14 @@ const H0: [u32; 8] = [
 
 // The constant of each of the 64 rounds.
 pub fn round_constants() -> &'static [u32]
-    ensures { λ r. ⌜ now r ≡ standard ⌝ }
+    ensures { result.now ≡ standard }
 {
     &K
 }
 
 // The hash value before the first block.
 pub fn initial_hash() -> [u32; 8]
-    ensures { λ r. ⌜ r ≡ initial ⌝ }
+    ensures { result ≡ initial }
 {
     H0
 }

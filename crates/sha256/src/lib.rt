@@ -1,12 +1,11 @@
 // SHA-256 of bytes, as FIPS 180-4 has it: of one slice, of two, and the first four bytes of the digest of nine bytes.
 // All of them go through the same compression of a block, and none of them allocates.
-ghost use Prim.Native.Nat.{_+_, _/_, _<_, _^_};
-ghost use Rattle·sha256·specs.Hash.{blocksDone, bytesOf, digest as digestOf, wordBytes};
-ghost use Rattle·sha256·specs.Known.{Known};
-ghost use Rattle·sha256·specs.Padding.{padded};
-ghost use lib.ListN.{length, take};
-ghost use mathlib.Core.List.{_++_};
-ghost use mathlib.Core.Path.{_≡_};
+#![tactic(auto)]
+
+ghost use Rattle.std.specs.Prelude.{◌≡◌, ◌+◌, ◌/◌, ◌^◌, ◌<◌, ◌++◌, length, take};
+ghost use Rattle.sha256.specs.Hash.{blocks_done, bytes_of, digest as digest_of, word_bytes};
+ghost use Rattle.sha256.specs.Known.{Known};
+ghost use Rattle.sha256.specs.Padding.{padded};
 
 mod constants;
 mod padding;
@@ -17,7 +16,7 @@ const TOO_MANY: usize = 1 << 63;
 
 // The hash value as bytes.
 fn to_bytes(hash: [u32; 8]) -> [u8; 32]
-    ensures { λ r. ⌜ r ≡ bytesOf hash 8 ⌝ }
+    ensures { result ≡ bytes_of hash 8 }
 {
     let mut bytes = [0; 32];
     for i in 0..8 {
@@ -32,8 +31,8 @@ fn to_bytes(hash: [u32; 8]) -> [u8; 32]
 
 // The hash value after all blocks of `a` and then `b`.
 fn hash(a: &[u8], b: &[u8]) -> [u32; 8]
-    requires { ⌜ length (now a) + length (now b) < 2 ^ 63 ⌝ }
-    ensures { λ r. ⌜ r ≡ blocksDone (padded (now (a .entry) ++ now (b .entry))) ((length (now (a .entry)) + length (now (b .entry)) + 8) / 64 + 1) ⌝ }
+    requires { length a.now + length b.now < 2 ^ 63 }
+    ensures { result ≡ blocks_done (padded (a.now ++ b.now)) ((length a.now + length b.now + 8) / 64 + 1) }
 {
     let mut hash = constants::initial_hash();
     for n in 0..padding::block_count(a.len() + b.len()) {
@@ -45,22 +44,22 @@ fn hash(a: &[u8], b: &[u8]) -> [u32; 8]
 
 // The digest of `a` and then `b`.
 fn digest(a: &[u8], b: &[u8]) -> [u8; 32]
-    requires { ⌜ length (now a) + length (now b) < 2 ^ 63 ⌝ }
-    ensures { λ r. ⌜ r ≡ digestOf (now (a .entry) ++ now (b .entry)) ⌝ }
+    requires { length a.now + length b.now < 2 ^ 63 }
+    ensures { result ≡ digest_of (a.now ++ b.now) }
 {
     to_bytes(hash(a, b))
 }
 
 // The digest of a message.
 pub fn sha256(bytes: &[u8]) -> [u8; 32]
-    ensures { λ r. ⌜ r ≡ digestOf (now (bytes .entry)) ⌝ }
+    ensures { result ≡ digest_of bytes.now }
 {
     digest(bytes, &[])
 }
 
 // The digest of one slice and then another. Of 2^63 bytes and more, which no memory holds, it is 32 zeros.
 pub fn sha256_of_two(a: &[u8], b: &[u8]) -> [u8; 32]
-    ensures { λ r. ⌜ (length (now (a .entry)) + length (now (b .entry)) < 2 ^ 63 → r ≡ digestOf (now (a .entry) ++ now (b .entry))) ⌝ }
+    ensures { length a.now + length b.now < 2 ^ 63 → result ≡ digest_of (a.now ++ b.now) }
 {
     if a.len() >= TOO_MANY - b.len() {
         return [0; 32];
@@ -70,7 +69,7 @@ pub fn sha256_of_two(a: &[u8], b: &[u8]) -> [u8; 32]
 
 // The first word of the hash value of nine bytes, which are one block.
 fn first_word(bytes: [u8; 9]) -> u32
-    ensures { λ r. ⌜ wordBytes r ≡ take 4 (digestOf bytes) ⌝ }
+    ensures { word_bytes result ≡ take 4 (digest_of bytes) }
 {
     let words = padding::nine_words(bytes);
     let [first, ..] = rounds::compress(constants::initial_hash(), words);
@@ -79,12 +78,12 @@ fn first_word(bytes: [u8; 9]) -> u32
 
 // The first four bytes of the digest of nine bytes.
 pub fn sum(bytes: [u8; 9]) -> [u8; 4]
-    ensures { λ r. ⌜ r ≡ take 4 (digestOf bytes) ⌝ }
+    ensures { result ≡ take 4 (digest_of bytes) }
 {
     first_word(bytes).to_be_bytes()
 }
 
 // The digests of three messages, written out.
 pub fn known_digests()
-    ensures { λ _. ⌜ Known ⌝ }
+    ensures { Known }
 {}

@@ -1,38 +1,35 @@
--- The worked examples hold (nine-plans, three-speakers), by computation, and by the theorem on the tables of our plans.
-use mathlib.Core.Path.{_≡_, refl, subst}
-use lib.Dec.{T}
-use lib.ListN.{length}
-use native.Mathlib.Omega.{arith}
-use Rattle·speakall·specs.Plan.{Good, slotAt, below, same, isIn, different, digits, listed, size, IsPlan}
-use Rattle·speakall·specs.Frame.{p, wordAt, heard, wordsOf, plansOf}
-use Rattle·speakall·specs.Promise.{tableOf, tables, Seldom, Frame}
-use Rattle·speakall·specs.Example.{small, nineTables, NinePlans, five, three, ThreeSpeakers}
-use Rattle·speakall·proofs.Members.{all-mem}
-use Rattle·speakall·proofs.Reached.{reached}
+-- The worked examples hold (nine_plans, three_speakers), by computation, and by the theorem on the tables of our plans.
+use Rattle.std.proofs.Common.{◌≡◌, T, length, refl, subst, arith}
+use Rattle.speakall.specs.Plan.{Good, slot_at, below, same, is_in, different, digits, listed, size, IsPlan}
+use Rattle.speakall.specs.Frame.{p, word_at, heard, words_of, plans_of}
+use Rattle.speakall.specs.Promise.{table_of, tables, Seldom, Frame}
+use Rattle.speakall.specs.Example.{small, nine_tables, NinePlans, five, three, ThreeSpeakers}
+use Rattle.speakall.proofs.Members.{all_mem}
+use Rattle.speakall.proofs.Reached.{reached}
 
-small-good : Good small
+small_good : Good small
 unfolding listed
-small-good = (tt, omega arith, omega arith, omega arith, omega arith, omega arith)
+small_good = (tt, omega arith, omega arith, omega arith, omega arith, omega arith)
 
-nine-tables : tables small 9 ≡ nineTables
-unfolding tables tableOf digits slotAt
-nine-tables = refl
+nine_tables_lem : tables small 9 ≡ nine_tables
+unfolding tables table_of digits slot_at
+nine_tables_lem = refl
 
-pub nine-plans : NinePlans
-nine-plans = record { good = small-good; plans = nine-tables; seldom = subst (Seldom small) nine-tables (reached small small-good .1); count = refl }
+pub nine_plans : NinePlans
+nine_plans = record { good = small_good; plans = nine_tables_lem; seldom = subst (Seldom small) nine_tables_lem (reached small small_good).1; count = refl }
 
-five-good : Good five
+five_good : Good five
 unfolding listed
-five-good = (tt, omega arith, omega arith, omega arith, omega arith, omega arith)
+five_good = (tt, omega arith, omega arith, omega arith, omega arith, omega arith)
 
-three-frame : Frame five three
-unfolding digits below same isIn different plansOf
-three-frame = record {
-  plans = λ s m. all-mem (λ s. IsPlan five (s .plan) × (length (s .message) ≡ size five) × T (below p (s .message))) three s (((refl, tt), refl, tt), (((refl, tt), refl, tt), (((refl, tt), refl, tt), tt))) m;
+three_frame : Frame five three
+unfolding digits below same is_in different plans_of
+three_frame = record {
+  plans = λ s m. all_mem (λ s. IsPlan five s.plan × (length s.message ≡ size five) × T (below p s.message)) three s (((refl, tt), refl, tt), (((refl, tt), refl, tt), (((refl, tt), refl, tt), tt))) m;
   apart = tt;
   few = omega arith;
 }
 
-pub three-speakers : ThreeSpeakers
-unfolding digits slotAt wordAt heard wordsOf same
-three-speakers = record { good = five-good; frame = three-frame; noise = refl; words = refl }
+pub three_speakers : ThreeSpeakers
+unfolding digits slot_at word_at heard words_of same
+three_speakers = record { good = five_good; frame = three_frame; noise = refl; words = refl }

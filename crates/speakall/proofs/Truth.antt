@@ -1,12 +1,10 @@
 -- A test that came out true, as an equation and as a fact.
--- true-from, from-true. Assumes nothing.
-use mathlib.Core.Path.{_≡_, refl, subst}
-use mathlib.Core.Bool.{Bool, true, false}
-use lib.Dec.{T}
+-- true_from, from_true. Assumes nothing.
+use Rattle.std.proofs.Common.{◌≡◌, Bool, true, false, T, refl, subst}
 
-pub true-from : (b : Bool) → T b → b ≡ true
-true-from true t = refl
-true-from false t = absurd t
+pub true_from : (b : Bool) → T b → b ≡ true
+true_from true t = refl
+true_from false t = absurd t
 
-pub from-true : (b : Bool) → true ≡ b → T b
-from-true b e = subst T e tt
+pub from_true : (b : Bool) → true ≡ b → T b
+from_true b e = subst T e tt

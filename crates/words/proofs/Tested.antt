@@ -1,54 +1,49 @@
 -- What counts, as the test says it.
--- tested-none, tested-some. Assumes nothing.
-use mathlib.Core.Path.{_≡_, refl, sym}
-use mathlib.Core.Bool.{Bool, true, false, _&&_}
-use mathlib.Core.List.{List}
-use Prim.Native.Nat.{ℕ, _%_, _^_, _≤_}
-use native.Mathlib.Omega.{arith}
-use lib.Dec.{eqb, ltb}
-use Rattle·std.specs.shelf.Text.{sameBytes}
-use Rattle·std.proofs.shelf.Equals.{sameBytes-decides}
-use Rattle·std.proofs.shelf.Tests.{and-parts, and-from, ltb-true, lt-ltb, eqb-true, eq-eqb}
-use Rattle·speakall.specs.Plan.{Channel, slotAt, planOf}
-use Rattle·speakall.specs.Frame.{p}
-use Rattle·words·specs.Bytes.{airBytes}
-use Rattle·words·specs.Counting.{Counts, senderIn, wordIn, isCounted}
-use Rattle·words·proofs.Said.{sender-read, word-read}
+-- tested_none, tested_some. Assumes nothing.
+use Rattle.std.proofs.Common.{◌≡◌, ℕ, ◌%◌, ◌^◌, ◌≤◌, Bool, true, false, ◌&&◌, eqb, ltb, List, sym, refl, arith}
+use Rattle.std.specs.Str.{bytes_eq}
+use Rattle.std.proofs.lemmas.Slice.Eq.{bytes_eq-Decides}
+use Rattle.std.proofs.lemmas.Bool.{and_parts, and_from, ltb-true, lt-ltb, eqb-true, eq-eqb}
+use Rattle.speakall.specs.Plan.{Channel, slot_at, plan_of}
+use Rattle.speakall.specs.Frame.{p}
+use Rattle.words.specs.Bytes.{air_bytes}
+use Rattle.words.specs.Counting.{Counts, sender_in, word_in, is_counted}
+use Rattle.words.proofs.Said.{sender_read, word_read}
 
-false-from : (b : Bool) → (b ≡ true → ⊥) → b ≡ false
-false-from true n = absurd (n refl)
-false-from false n = refl
+false_from : (b : Bool) → (b ≡ true → ⊥) → b ≡ false
+false_from true n = absurd (n refl)
+false_from false n = refl
 
 module _ (c : Channel) (frame part slot : ℕ) (bs : List ℕ) where
   -- the test, of a sender and a word that need not be those in the bytes
   abbrev test : ℕ → ℕ → Bool
-  test s w = sameBytes bs (airBytes s (frame % 256) w part) && ltb s ((c .q) ^ (c .d)) && ltb part (c .q) && eqb slot (slotAt (c .q) (planOf c s) part) && ltb w p
+  test s w = bytes_eq bs (air_bytes s (frame % 256) w part) && ltb s (c.q ^ c.d) && ltb part c.q && eqb slot (slot_at c.q (plan_of c s) part) && ltb w p
 
-  test-from : (s w : ℕ) → Counts c frame part slot bs s w → test s w ≡ true
-  test-from s w k =
-      and-from _ _ (and-from _ _ (and-from _ _ (and-from _ _ (sameBytes-decides bs _ .1 (k .said)) (lt-ltb _ _ (k .speaks .there))) (lt-ltb _ _ (k .speaks .in-part))) (eq-eqb _ _ (k .speaks .in-slot))) (lt-ltb _ _ (k .below))
+  test_from : (s w : ℕ) → Counts c frame part slot bs s w → test s w ≡ true
+  test_from s w k =
+      and_from _ _ (and_from _ _ (and_from _ _ (and_from _ _ ((bytes_eq-Decides bs _).1 k.said) (lt-ltb _ _ k.speaks.there)) (lt-ltb _ _ k.speaks.in-part)) (eq-eqb _ _ k.speaks.in-slot)) (lt-ltb _ _ k.below)
 
-  counts-from : (s w : ℕ) → test s w ≡ true → Counts c frame part slot bs s w
-  counts-from s w t =
-      let a = and-parts _ (ltb w p) t in
-      let b = and-parts _ (eqb slot (slotAt (c .q) (planOf c s) part)) (a .0) in
-      let d = and-parts _ (ltb part (c .q)) (b .0) in
-      let e = and-parts _ (ltb s ((c .q) ^ (c .d))) (d .0) in
+  counts_from : (s w : ℕ) → test s w ≡ true → Counts c frame part slot bs s w
+  counts_from s w t =
+      let a = and_parts _ (ltb w p) t in
+      let b = and_parts _ (eqb slot (slot_at c.q (plan_of c s) part)) a.0 in
+      let d = and_parts _ (ltb part c.q) b.0 in
+      let e = and_parts _ (ltb s (c.q ^ c.d)) d.0 in
       record {
-        said = sameBytes-decides bs _ .0 (e .0);
-        speaks = record { there = ltb-true _ _ (e .1); in-part = ltb-true _ _ (d .1); in-slot = eqb-true _ _ (b .1) };
-        below = ltb-true _ _ (a .1);
+        said = (bytes_eq-Decides bs _).0 e.0;
+        speaks = record { there = ltb-true _ _ e.1; in-part = ltb-true _ _ d.1; in-slot = eqb-true _ _ b.1 };
+        below = ltb-true _ _ a.1;
       }
 
-  pub tested-none : ((s w : ℕ) → Counts c frame part slot bs s w → ⊥) → isCounted c frame part slot bs ≡ false
-  unfolding isCounted
-  tested-none n = false-from _ (λ t. n _ _ (counts-from (senderIn bs) (wordIn bs) t))
+  pub tested_none : ((s w : ℕ) → Counts c frame part slot bs s w → ⊥) → is_counted c frame part slot bs ≡ false
+  unfolding is_counted
+  tested_none n = false_from _ (λ t. n _ _ (counts_from (sender_in bs) (word_in bs) t))
 
-  pub tested-some : (s w : ℕ) → (c .q) ^ (c .d) ≤ 65536 → Counts c frame part slot bs s w → (isCounted c frame part slot bs ≡ true) × (s ≡ senderIn bs) × (w ≡ wordIn bs)
-  unfolding isCounted
-  tested-some s w h k =
-      let there = k .speaks .there in
-      let below = k .below in
-      let a = sender-read bs s (frame % 256) w part (k .said) (omega arith) in
-      let b = word-read bs s (frame % 256) w part (k .said) (omega arith) in
-      (rw (a, b) (test-from s w k), sym a, sym b)
+  pub tested_some : (s w : ℕ) → c.q ^ c.d ≤ 65536 → Counts c frame part slot bs s w → (is_counted c frame part slot bs ≡ true) × (s ≡ sender_in bs) × (w ≡ word_in bs)
+  unfolding is_counted
+  tested_some s w h k =
+      let there = k.speaks.there in
+      let below = k.below in
+      let a = sender_read bs s (frame % 256) w part k.said (omega arith) in
+      let b = word_read bs s (frame % 256) w part k.said (omega arith) in
+      (rw (a, b) (test_from s w k), sym a, sym b)

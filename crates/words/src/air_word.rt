@@ -1,13 +1,11 @@
 // A word on the air, and its twelve bytes, high byte first: the sender's number (3), the frame modulo 256 (1), the word (4),
 // and the first four bytes of SHA-256 over these eight and the part.
-ghost use Prim.Native.Nat.{_<_, _^_, _≤_};
-ghost use Rattle·channels.specs.Settings.{settings};
-ghost use Rattle·faults.specs.declared.fault.Fault.the-variants.{Sender as FaultSender};
-ghost use Rattle·std.specs.Results.{Cases};
-ghost use Rattle·words·specs.Bytes.{airBytes, body as bodyOf, sumOf};
-ghost use Rattle·words·specs.Counting.{SaidBy};
-ghost use mathlib.Core.List.{_++_};
-ghost use mathlib.Core.Path.{_≡_};
+ghost use Rattle.std.specs.Prelude.{◌≡◌, ◌^◌, ◌<◌, ◌≤◌, ◌++◌, MatchResult};
+ghost use Rattle.channels.specs.Settings.{settings};
+ghost use Rattle.faults.specs.declared.fault.Fault.TheVariants.{Sender as FaultSender};
+ghost use Rattle.words.specs.Bytes.{air_bytes, body as body_of, sum_of};
+ghost use Rattle.words.specs.Counting.{SaidBy};
+
 use channels::Channel;
 use faults::Fault;
 
@@ -25,7 +23,7 @@ pub struct AirWord {
 
 // The eight bytes and then the sum.
 fn joined(body: [u8; 8], sum: [u8; 4]) -> [u8; 12]
-    ensures { λ r. ⌜ r ≡ body ++ sum ⌝ }
+    ensures { result ≡ body ++ sum }
 {
     let [a, b, c, d, e, f, g, h] = body;
     let [i, j, k, l] = sum;
@@ -34,7 +32,7 @@ fn joined(body: [u8; 8], sum: [u8; 4]) -> [u8; 12]
 
 // The first four bytes of the digest of the eight bytes and the part.
 fn sum_of(body: [u8; 8], part: u8) -> [u8; 4]
-    ensures { λ r. ⌜ r ≡ sumOf body part ⌝ }
+    ensures { result ≡ sum_of body part }
 {
     let [a, b, c, d, e, f, g, h] = body;
     sha256::sum([a, b, c, d, e, f, g, h, part])
@@ -43,7 +41,7 @@ fn sum_of(body: [u8; 8], part: u8) -> [u8; 4]
 impl AirWord {
     // The word of a sender in a frame, or `Fault::Sender` where the channel has no such sender.
     pub fn new(channel: Channel, sender: u32, frame: u32, word: u32) -> Result<AirWord, Fault>
-        ensures { λ r. ⌜ Cases r (λ a. SaidBy (settings channel) sender frame word (a .sender) (a .frame) (a .word)) (λ e. (e ≡ FaultSender) × (settings channel .q ^ settings channel .d ≤ sender)) ⌝ }
+        ensures { MatchResult result (λ a. SaidBy (settings channel) sender frame word a.sender a.frame a.word) (λ e. (e ≡ FaultSender) × ((settings channel).q ^ (settings channel).d ≤ sender)) }
     {
         if sender >= channel.senders() {
             return Err(Fault::Sender);
@@ -57,7 +55,7 @@ impl AirWord {
 
     // The eight bytes that say something.
     fn body(self) -> [u8; 8]
-        ensures { λ r. ⌜ r ≡ bodyOf (self .sender) (self .frame) (self .word) ⌝ }
+        ensures { result ≡ body_of self.sender self.frame self.word }
     {
         let [_, a, b, c] = self.sender.to_be_bytes();
         let [e, f, g, h] = self.word.to_be_bytes();
@@ -66,7 +64,7 @@ impl AirWord {
 
     // The bytes that are put out in this part.
     pub fn to_bytes(self, part: u8) -> [u8; 12]
-        ensures { λ r. ⌜ r ≡ airBytes (self .sender) (self .frame) (self .word) part ⌝ }
+        ensures { result ≡ air_bytes self.sender self.frame self.word part }
     {
         let body = self.body();
         joined(body, sum_of(body, part))

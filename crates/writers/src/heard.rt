@@ -1,39 +1,33 @@
 // A channel and what was heard on it, written.
-ghost use Rattle·channels.specs.Settings.{settings};
-ghost use Rattle·faults.specs.declared.fault.Fault.the-variants.{Memory as FaultMemory};
-ghost use Rattle·readers.specs.Inputs.{readInput};
-ghost use Rattle·reading.specs.Formats.{heardFormat};
-ghost use Rattle·reading.specs.Reading.{finished};
-ghost use Rattle·records.specs.Channels.{bytesOfChannel};
-ghost use Rattle·records.specs.Hearing.{bytesOfHeard};
-ghost use Rattle·std.specs.Joined.{joined};
-ghost use Rattle·std.specs.Of.Vec.{vec-items};
-ghost use Rattle·std.specs.Results.{Cases};
-ghost use Rattle·std.specs.declared.option.Option.the-variants.{Some};
-ghost use Rattle·std.specs.shelf.Lists.{All};
-ghost use Rattle·writers·specs.Order.{InOrder, ReadBack};
-ghost use Rattle·writers·specs.Written.{Begun, Put};
-ghost use mathlib.Core.List.{_++_};
-ghost use mathlib.Core.Path.{_≡_};
+ghost use Rattle.channels.specs.Settings.{settings};
+ghost use Rattle.faults.specs.declared.fault.Fault.TheVariants.{Memory as FaultMemory};
+ghost use Rattle.readers.specs.Inputs.{read_input};
+ghost use Rattle.reading.specs.Formats.{heard_format};
+ghost use Rattle.reading.specs.Reading.{finished};
+ghost use Rattle.records.specs.Channels.{bytes_of_channel};
+ghost use Rattle.records.specs.Hearing.{bytes_of_heard};
+ghost use Rattle.std.specs.List.{flat_map, AllByRecursion as All};
+ghost use Rattle.std.specs.Prelude.{◌≡◌, ◌++◌, IfOk, Some, MatchResult, OnOk};
+ghost use Rattle.writers.specs.Order.{InOrder, ReadBack};
+ghost use Rattle.writers.specs.Written.{Begun, Put};
+
 use crate::put::put;
 use channels::Channel;
 use faults::Fault;
-use records::Heard;
-use records::HeardBytes;
-use records::channel_bytes;
+use records::{Heard, HeardBytes, channel_bytes};
 use std::alloc::Global;
 
 // Writes a channel behind the bytes that are there; `Fault::Memory` without memory for it, and then they stay as they were.
 pub fn write_channel(out: &mut Vec<u8>, channel: Channel) -> Result<(), Fault>
-    ensures { λ r. ⌜ Put r (vec-items (now (out .entry))) (bytesOfChannel (channel .q) (channel .d) (channel .k)) (vec-items (now (out .exit))) ⌝ }
+    ensures { Put result out.old.items (bytes_of_channel channel.q channel.d channel.k) out.new.items }
 {
     put(out, &channel_bytes(channel))
 }
 
 // Writes what was heard behind the bytes that are there; `Fault::Memory` without memory for it, and then they stay as they were.
 pub fn write_heard(out: &mut Vec<u8>, heard: Heard) -> Result<(), Fault>
-    ensures bytes { λ r. ⌜ Put r (vec-items (now (out .entry))) (bytesOfHeard heard) (vec-items (now (out .exit))) ⌝ }
-    ensures back { λ r. ⌜ ReadBack heard ⌝ }
+    ensures bytes { Put result out.old.items (bytes_of_heard heard) out.new.items }
+    ensures back { ReadBack heard }
 {
     match heard.to_bytes() {
         HeardBytes::Word(bytes) => put(out, &bytes),
@@ -43,8 +37,8 @@ pub fn write_heard(out: &mut Vec<u8>, heard: Heard) -> Result<(), Fault>
 
 // Writes all that was heard; where memory fails, some of it.
 fn write_all(out: &mut Vec<u8>, records: &[Heard]) -> Result<(), Fault>
-    ensures bytes { λ r. ⌜ Begun r (vec-items (now (out .entry))) (joined bytesOfHeard (now (records .entry))) (vec-items (now (out .exit))) ⌝ }
-    ensures back { λ r. ⌜ Cases r (λ _. All ReadBack (now (records .entry))) (λ _. Unit {0}) ⌝ }
+    ensures bytes { Begun result out.old.items (flat_map bytes_of_heard records.now) out.new.items }
+    ensures back { OnOk result (All ReadBack records.now) }
 {
     for heard in records {
         if let Err(fault) = write_heard(out, *heard) {
@@ -61,8 +55,8 @@ pub fn heard_input_bytes(
     channel: Channel,
     records: &[Heard],
 ) -> Result<Vec<u8>, Fault>
-    ensures bytes { λ r. ⌜ Cases r (λ v. vec-items v ≡ bytesOfChannel (channel .q) (channel .d) (channel .k) ++ joined bytesOfHeard (now (records .entry))) (λ e. e ≡ FaultMemory) ⌝ }
-    ensures back { λ r. ⌜ Cases r (λ v. InOrder (channel .q) 0 (now (records .entry)) → readInput (λ c. heardFormat (c .q)) (vec-items v) ≡ record { channel = Some (settings channel); reading = record { given = now (records .entry); ending = finished } }) (λ _. Unit {0}) ⌝ }
+    ensures bytes { MatchResult result (λ v. v.items ≡ bytes_of_channel channel.q channel.d channel.k ++ flat_map bytes_of_heard records.now) (λ e. e ≡ FaultMemory) }
+    ensures back { IfOk result (λ v. InOrder channel.q 0 records.now → read_input (λ c. heard_format c.q) v.items ≡ record { channel = Some (settings channel); reading = record { given = records.now; ending = finished } }) }
 {
     let mut out = Vec::new(heap);
     write_channel(&mut out, channel)?;

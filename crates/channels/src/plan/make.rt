@@ -1,26 +1,22 @@
 // How a plan is made of a sender's number, and the slot that it gives in a part.
-ghost use Prim.Native.Nat.{_<_, _^_, _≤_};
-ghost use Rattle·channels·specs.Plans.{Planned, Seldom, planIn};
-ghost use Rattle·channels·specs.Settings.{settings};
-ghost use Rattle·faults.specs.declared.fault.Fault.the-variants.{Sender as FaultSender};
-ghost use Rattle·speakall.specs.Plan.{below, digits as digitsOf, slotAt};
-ghost use Rattle·speakall.specs.Promise.{meet};
-ghost use Rattle·std.specs.Options.{Cases as BySome};
-ghost use Rattle·std.specs.Results.{Cases};
-ghost use lib.Dec.{T};
-ghost use lib.ListN.{length, take};
-ghost use mathlib.Core.Path.{_≡_};
+ghost use Rattle.std.specs.Prelude.{◌≡◌, ◌^◌, ◌<◌, ◌≤◌, T, length, take, MatchOption, MatchResult};
+ghost use Rattle.channels.specs.Plans.{Planned, Seldom, plan_in};
+ghost use Rattle.channels.specs.Settings.{settings};
+ghost use Rattle.faults.specs.declared.fault.Fault.TheVariants.{Sender as FaultSender};
+ghost use Rattle.speakall.specs.Plan.{below, digits as digits_of, slot_at};
+ghost use Rattle.speakall.specs.Promise.{meet};
+
 use super::Plan;
 use crate::channel::Channel;
 use faults::Fault;
 
 // The number with `count` digits to the base q, the lowest first.
 fn written(number: u32, q: u8, count: u8) -> [u8; 4]
-    requires base { ⌜ 2 < q ⌝ }
-    requires few { ⌜ count ≤ 4 ⌝ }
-    ensures digits { λ r. ⌜ take count r ≡ digitsOf q number count ⌝ }
-    ensures below { λ r. ⌜ T (below q (take count r)) ⌝ }
-    ensures four { λ r. ⌜ length r ≡ 4 ⌝ }
+    requires base { 2 < q }
+    requires few { count ≤ 4 }
+    ensures digits { take count result ≡ digits_of q number count }
+    ensures below { T (below q (take count result)) }
+    ensures four { length result ≡ 4 }
 {
     let mut digits = [0; 4];
     let mut rest = number;
@@ -34,7 +30,7 @@ fn written(number: u32, q: u8, count: u8) -> [u8; 4]
 impl Plan {
     // The plan of the sender with this number, or `Fault::Sender` where the channel has no such sender.
     pub fn of(channel: Channel, number: u32) -> Result<Plan, Fault>
-        ensures { λ r. ⌜ Cases r (λ p. Planned p (settings channel) number) (λ e. (e ≡ FaultSender) × (settings channel .q ^ settings channel .d ≤ number)) ⌝ }
+        ensures { MatchResult result (λ p. Planned p (settings channel) number) (λ e. (e ≡ FaultSender) × ((settings channel).q ^ (settings channel).d ≤ number)) }
     {
         if number >= channel.senders() {
             return Err(Fault::Sender);
@@ -47,8 +43,8 @@ impl Plan {
 
     // The polynomial's value at x, modulo q: from the highest coefficient down, a product and a remainder for each.
     fn value(self, x: u8) -> u8
-        ensures is { λ r. ⌜ r ≡ slotAt (self .q) (planIn self) x ⌝ }
-        ensures below { λ r. ⌜ r < self .q ⌝ }
+        ensures is { result ≡ slot_at self.q (plan_in self) x }
+        ensures below { result < self.q }
     {
         let q = u64::from(self.q);
         let mut value: u32 = 0;
@@ -61,7 +57,7 @@ impl Plan {
 
     // The slot in which the sender speaks in this part: the polynomial's value there, modulo q. None for a part that isn't there.
     pub fn slot(self, part: u8) -> Option<u8>
-        ensures { λ r. ⌜ BySome r (self .q ≤ part) (λ s. (part < self .q) × (s < self .q) × (s ≡ slotAt (self .q) (planIn self) part)) ⌝ }
+        ensures { MatchOption result (self.q ≤ part) (λ s. (part < self.q) × (s < self.q) × (s ≡ slot_at self.q (plan_in self) part)) }
     {
         if part >= self.q {
             return None;
@@ -71,8 +67,8 @@ impl Plan {
 
     // In how many parts of a frame the two plans have one slot, part by part.
     fn met(self, other: Plan) -> u8
-        ensures count { λ r. ⌜ r ≡ meet (self .q) (slotAt (self .q) (planIn self)) (slotAt (other .q) (planIn other)) (self .q) ⌝ }
-        ensures seldom { λ r. ⌜ Seldom self other r ⌝ }
+        ensures count { result ≡ meet self.q (slot_at self.q (plan_in self)) (slot_at other.q (plan_in other)) self.q }
+        ensures seldom { Seldom self other result }
     {
         let mut count = 0;
         for part in 0..self.q {
@@ -85,8 +81,8 @@ impl Plan {
 
     // In how many parts of a frame the two plans have one slot. Two plans of one channel that differ meet in at most d - 1.
     pub fn meets(self, other: Plan) -> u8
-        ensures count { λ r. ⌜ r ≡ meet (self .q) (slotAt (self .q) (planIn self)) (slotAt (other .q) (planIn other)) (self .q) ⌝ }
-        ensures seldom { λ r. ⌜ Seldom self other r ⌝ }
+        ensures count { result ≡ meet self.q (slot_at self.q (plan_in self)) (slot_at other.q (plan_in other)) self.q }
+        ensures seldom { Seldom self other result }
     {
         self.met(other)
     }

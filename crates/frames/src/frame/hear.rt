@@ -1,14 +1,10 @@
 // All the speakers of a frame at once.
-ghost use Rattle·channels.specs.Settings.{settings};
-ghost use Rattle·faults.specs.declared.fault.Fault.the-variants.{Memory as FaultMemory};
-ghost use Rattle·frames·specs.Slots.{Hears};
-ghost use Rattle·frames·specs.Speakers.{refusalIn, speakersIn};
-ghost use Rattle·std.specs.Of.Vec.{vec-items};
-ghost use Rattle·std.specs.Results.{Cases};
-ghost use Rattle·std.specs.declared.option.Option.the-variants.{None, Some};
-ghost use mathlib.Core.List.{[]};
-ghost use mathlib.Core.Logic.{_⊎_};
-ghost use mathlib.Core.Path.{_≡_};
+ghost use Rattle.channels.specs.Settings.{settings};
+ghost use Rattle.faults.specs.declared.fault.Fault.TheVariants.{Memory as FaultMemory};
+ghost use Rattle.frames.specs.Slots.{Hears};
+ghost use Rattle.frames.specs.Speakers.{refusal_in, speakers_in};
+ghost use Rattle.std.specs.Prelude.{◌≡◌, ◌⊎◌, [], Some, None, MatchResult};
+
 use super::Frame;
 use super::speak::refused;
 use crate::speaker::Speaker;
@@ -18,7 +14,7 @@ use std::alloc::Global;
 
 // Why one of the speakers cannot speak on this channel: the first of them that cannot.
 fn first_refused(channel: Channel, speakers: &[Speaker]) -> Option<Fault>
-    ensures { λ r. ⌜ r ≡ refusalIn (settings channel) (now (speakers .entry)) ⌝ }
+    ensures { result ≡ refusal_in (settings channel) speakers.now }
 {
     for speaker in speakers {
         if let Some(fault) = refused(channel, speaker.number, &speaker.message) {
@@ -30,10 +26,10 @@ fn first_refused(channel: Channel, speakers: &[Speaker]) -> Option<Fault>
 
 // These speakers, none of whom is refused, speak in a silent frame; the last of them first, as the statement has it.
 fn speak_all(frame: &mut Frame, speakers: &[Speaker]) -> Result<(), Fault>
-    requires silent { ⌜ Hears (settings (now frame .channel)) [] (vec-items (now frame .slots)) ⌝ }
-    requires can { ⌜ refusalIn (settings (now frame .channel)) (now speakers) ≡ None ⌝ }
-    ensures same { λ r. ⌜ now (frame .exit) .channel ≡ now (frame .entry) .channel ⌝ }
-    ensures heard { λ r. ⌜ Cases r (λ _. Hears (settings (now (frame .entry) .channel)) (speakersIn (settings (now (frame .entry) .channel)) (now (speakers .entry))) (vec-items (now (frame .exit) .slots))) (λ _. ⊥) ⌝ }
+    requires silent { Hears (settings frame.old.channel) [] frame.old.slots.items }
+    requires can { refusal_in (settings frame.old.channel) speakers.now ≡ None }
+    ensures same { frame.new.channel ≡ frame.old.channel }
+    ensures heard { MatchResult result (λ _. Hears (settings frame.old.channel) (speakers_in (settings frame.old.channel) speakers.now) frame.new.slots.items) (λ _. ⊥) }
 {
     for i in (0..speakers.len()).rev() {
         let speaker = &speakers[i];
@@ -45,7 +41,7 @@ fn speak_all(frame: &mut Frame, speakers: &[Speaker]) -> Result<(), Fault>
 impl Frame {
     // What is heard when these and nobody else speak; the fault of the first that cannot, or `Fault::Memory`.
     pub fn hear(heap: Global, channel: Channel, speakers: &[Speaker]) -> Result<Frame, Fault>
-        ensures { λ r. ⌜ Cases r (λ f. (f .channel ≡ channel) × (refusalIn (settings channel) (now (speakers .entry)) ≡ None) × Hears (settings channel) (speakersIn (settings channel) (now (speakers .entry))) (vec-items (f .slots))) (λ e. (e ≡ FaultMemory) ⊎ (refusalIn (settings channel) (now (speakers .entry)) ≡ Some e)) ⌝ }
+        ensures { MatchResult result (λ f. (f.channel ≡ channel) × (refusal_in (settings channel) speakers.now ≡ None) × Hears (settings channel) (speakers_in (settings channel) speakers.now) f.slots.items) (λ e. (e ≡ FaultMemory) ⊎ (refusal_in (settings channel) speakers.now ≡ Some e)) }
     {
         if let Some(fault) = first_refused(channel, speakers) {
             return Err(fault);

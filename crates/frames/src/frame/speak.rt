@@ -1,34 +1,24 @@
 // Senders speak in a frame, one after the other.
-ghost use Prim.Native.Nat.{ℕ, _+_, _*_, _^_, _<_};
-ghost use Rattle·channels.specs.Settings.{settings};
-ghost use Rattle·channels.specs.Plans.{planIn};
-ghost use Rattle·frames·specs.Slots.{Hears, Said, Spoke, joined, refusal, slotIn, thereIn};
-ghost use Rattle·frames·specs.declared.slot.Slot.the-variants.{Silence as SlotSilence};
-ghost use Rattle·faults.specs.declared.fault.Fault.the-variants.{Memory as FaultMemory};
-ghost use Rattle·std.specs.Of.Vec.{vec-items};
-ghost use Rattle·std.specs.Results.{Cases};
-ghost use Rattle·std.specs.declared.option.Option.the-variants.{Some};
-ghost use lib.ListN.{length, replicate, set};
-ghost use mathlib.Core.Bool.{true};
-ghost use mathlib.Core.List.{[]};
-ghost use mathlib.Core.Path.{_≡_};
-use super::Frame;
-use super::slot_at;
+ghost use Rattle.std.specs.Prelude.{◌≡◌, ℕ, ◌+◌, ◌*◌, ◌^◌, ◌<◌, true, [], length, replicate, Some, MatchResult, slice_set};
+ghost use Rattle.channels.specs.Settings.{settings};
+ghost use Rattle.channels.specs.Plans.{plan_in};
+ghost use Rattle.frames.specs.Slots.{Hears, Said, Spoke, joined, refusal, slot_in, there_in};
+ghost use Rattle.frames.specs.declared.slot.Slot.TheVariants.{Silence as SlotSilence};
+ghost use Rattle.faults.specs.declared.fault.Fault.TheVariants.{Memory as FaultMemory};
+
+use super::{Frame, slot_at};
 use crate::slot::Slot;
-use channels::Channel;
-use channels::Plan;
+use channels::{Channel, Plan};
 use faults::Fault;
-use faults::fault::FaultFromAlloc;
-use messages::is_message;
-use messages::word_at;
+use messages::{is_message, word_at};
 use std::alloc::Global;
 
 // One sender more speaks in slot y of a part.
 fn say_in(q: u8, part: u8, y: u8, sender: u32, word: u32, slots: &mut [Slot])
-    requires part { ⌜ part < q ⌝ }
-    requires slot { ⌜ y < q ⌝ }
-    requires whole { ⌜ length (now slots) ≡ q * q ⌝ }
-    ensures { λ _. ⌜ now (slots .exit) ≡ set (now (slots .entry)) (part * q + y) (joined sender word (slotIn q (now (slots .entry)) part y)) ⌝ }
+    requires part { part < q }
+    requires slot { y < q }
+    requires whole { length slots.old ≡ q * q }
+    ensures { slots.new ≡ slice_set slots.old (part * q + y) (joined sender word (slot_in q slots.old part y)) }
 {
     let slot = slot_at(slots, q, part, y);
     slots[part as usize * q as usize + y as usize] = slot.with(sender, word);
@@ -36,10 +26,10 @@ fn say_in(q: u8, part: u8, y: u8, sender: u32, word: u32, slots: &mut [Slot])
 
 // One sender more speaks its message by its plan, in all q parts.
 fn say(q: u8, plan: Plan, sender: u32, message: &[u32], slots: &mut [Slot])
-    requires side { ⌜ plan .q ≡ q ⌝ }
-    requires whole { ⌜ length (now slots) ≡ q * q ⌝ }
-    ensures said { λ _. ⌜ Said q (planIn plan) sender (now (message .entry)) q (now (slots .entry)) (now (slots .exit)) ⌝ }
-    ensures there { λ _. ⌜ ((n : ℕ) → sender < n → thereIn n (now (slots .entry)) ≡ true → thereIn n (now (slots .exit)) ≡ true) ⌝ }
+    requires side { plan.q ≡ q }
+    requires whole { length slots.old ≡ q * q }
+    ensures said { Said q (plan_in plan) sender message.now q slots.old slots.new }
+    ensures there { (n : ℕ) → sender < n → there_in n slots.old ≡ true → there_in n slots.new ≡ true }
 {
     for part in 0..q {
         let Some(y) = plan.slot(part) else {
@@ -51,7 +41,7 @@ fn say(q: u8, plan: Plan, sender: u32, message: &[u32], slots: &mut [Slot])
 
 // Why a sender cannot speak on this channel with this message, if it cannot.
 pub fn refused(channel: Channel, number: u32, message: &[u32]) -> Option<Fault>
-    ensures { λ r. ⌜ r ≡ refusal (settings channel) number (now (message .entry)) ⌝ }
+    ensures { result ≡ refusal (settings channel) number message.now }
 {
     if number >= channel.senders() {
         return Some(Fault::Sender);
@@ -65,10 +55,10 @@ pub fn refused(channel: Channel, number: u32, message: &[u32]) -> Option<Fault>
 
 // One sender more speaks its message in these slots of a frame; refused, they stay as they were.
 fn speak_in(channel: Channel, number: u32, message: &[u32], slots: &mut [Slot]) -> Result<(), Fault>
-    requires whole { ⌜ length (now slots) ≡ channel .q * channel .q ⌝ }
-    requires there { ⌜ thereIn (channel .q ^ channel .d) (now slots) ≡ true ⌝ }
-    ensures there { λ _. ⌜ thereIn (channel .q ^ channel .d) (now (slots .exit)) ≡ true ⌝ }
-    ensures cases { λ r. ⌜ Cases r (λ _. Spoke (settings channel) number (now (message .entry)) (now (slots .entry)) (now (slots .exit))) (λ e. (refusal (settings channel) number (now (message .entry)) ≡ Some e) × (now (slots .exit) ≡ now (slots .entry))) ⌝ }
+    requires whole { length slots.old ≡ channel.q * channel.q }
+    requires there { there_in (channel.q ^ channel.d) slots.old ≡ true }
+    ensures there { there_in (channel.q ^ channel.d) slots.new ≡ true }
+    ensures cases { MatchResult result (λ _. Spoke (settings channel) number message.now slots.old slots.new) (λ e. (refusal (settings channel) number message.now ≡ Some e) × (slots.new ≡ slots.old)) }
 {
     if let Some(fault) = refused(channel, number, message) {
         return Err(fault);
@@ -81,7 +71,7 @@ fn speak_in(channel: Channel, number: u32, message: &[u32], slots: &mut [Slot]) 
 impl Frame {
     // A frame of the channel in which nobody speaks; `Fault::Memory` where there is no memory for its slots.
     pub fn silent(heap: Global, channel: Channel) -> Result<Frame, Fault>
-        ensures { λ r. ⌜ Cases r (λ f. (f .channel ≡ channel) × Hears (settings channel) [] (vec-items (f .slots)) × (vec-items (f .slots) ≡ replicate (channel .q * channel .q) SlotSilence)) (λ e. e ≡ FaultMemory) ⌝ }
+        ensures { MatchResult result (λ f. (f.channel ≡ channel) × Hears (settings channel) [] f.slots.items × (f.slots.items ≡ replicate (channel.q * channel.q) SlotSilence)) (λ e. e ≡ FaultMemory) }
     {
         let slots = vec![in heap; Slot::Silence; channel.slots() as usize]?;
         Ok(Frame { channel, slots })
@@ -89,8 +79,8 @@ impl Frame {
 
     // One sender more speaks its message in the frame, in all parts; refused, the frame stays as it was.
     pub fn speak(&mut self, number: u32, message: &[u32]) -> Result<(), Fault>
-        ensures same { λ r. ⌜ now (self .exit) .channel ≡ now (self .entry) .channel ⌝ }
-        ensures cases { λ r. ⌜ Cases r (λ _. Spoke (settings (now (self .entry) .channel)) number (now (message .entry)) (vec-items (now (self .entry) .slots)) (vec-items (now (self .exit) .slots))) (λ e. (refusal (settings (now (self .entry) .channel)) number (now (message .entry)) ≡ Some e) × (vec-items (now (self .exit) .slots) ≡ vec-items (now (self .entry) .slots))) ⌝ }
+        ensures same { self.new.channel ≡ self.old.channel }
+        ensures cases { MatchResult result (λ _. Spoke (settings self.old.channel) number message.now self.old.slots.items self.new.slots.items) (λ e. (refusal (settings self.old.channel) number message.now ≡ Some e) × (self.new.slots.items ≡ self.old.slots.items)) }
     {
         speak_in(self.channel, number, message, &mut self.slots)
     }

@@ -1,9 +1,9 @@
-use borrow.Author.Needs.{needs}
-use Rattle·options·proofs.Sorting.{kept-one, kept-none}
-use Rattle·options·proofs.keep.Needs as need
+use Rattle.std.proofs.Common.{rules}
+use Rattle.options.proofs.Sorting.{kept-one, kept_none}
+use Rattle.options.proofs.keep.Goals as goal
 
-pub returns-in-Continue-push : need.returns-in-Continue-push
-returns-in-Continue-push c = search (needs, kept-one)
+pub returns-in_ok-push : goal.returns-in_ok-push
+returns-in_ok-push c = search (rules, kept-one)
 
-pub returns-else-ne : need.returns-else-ne
-returns-else-ne c = search (needs, kept-none)
+pub returns-else-ne : goal.returns-else-ne
+returns-else-ne c = search (rules, kept_none)

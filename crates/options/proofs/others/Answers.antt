@@ -1,10 +1,10 @@
-use borrow.Author.Needs.{needs}
-use Rattle·options·proofs.Sorting.{without-more, without-all}
-use Rattle·options·proofs.others.Needs as need
+use Rattle.std.proofs.Common.{rules}
+use Rattle.options.proofs.Sorting.{without_more, without_all}
+use Rattle.options.proofs.others.Goals as goal
 
-pub loop-text-again : need.loop-text-again
-loop-text-again c =
-    without-more (c .args .option .now) (c .args .texts .now) (c .loop-text .text-index) (c .text-item .result) (c .as-str .result .now) (c .loop-text-test .taken) (c .text-item .is) (search needs) _ _ (c .in-Continue-keep .ensures tt) (c .loop-text .inv)
+pub loop-text-preserved : goal.loop-text-preserved
+loop-text-preserved c =
+    without_more c.args.option.now c.args.texts.now c.loop-text.text-index c.text-item.result c.as_str.result.now c.loop-text-test.true c.text-item.is (search rules) _ _ c.in_ok-keep.ensures c.loop-text.invariant
 
-pub returns : need.returns
-returns c = without-all (c .args .option .now) (c .args .texts .now) (c .loop-text .text-index) _ (c .loop-text-test .left) (c .loop-text .inv)
+pub returns : goal.returns
+returns c = without_all c.args.option.now c.args.texts.now c.loop-text.text-index _ c.loop-text-test.false c.loop-text.invariant

@@ -1,24 +1,20 @@
 // Pieces of an input, one after the other, and its end.
-ghost use Rattle·faults.specs.declared.fault.Fault.the-variants.{Memory as FaultMemory};
-ghost use Rattle·pieces·specs.Readers.{Fed, comingOf};
-ghost use Rattle·readers.specs.Inputs.{settingsIf};
-ghost use Rattle·std.specs.Of.Vec.{vec-items, vec-len};
-ghost use Rattle·std.specs.Results.{Cases};
-ghost use Rattle·std.specs.Vec.{listOf};
-ghost use lib.ListN.{take};
-ghost use mathlib.Core.List.{[], _++_};
-ghost use mathlib.Core.Path.{_≡_};
+ghost use Rattle.faults.specs.declared.fault.Fault.TheVariants.{Memory as FaultMemory};
+ghost use Rattle.pieces.specs.Readers.{Fed, coming_of};
+ghost use Rattle.readers.specs.Inputs.{settings_if};
+ghost use Rattle.std.specs.Prelude.{◌≡◌, [], ◌++◌, take, vec_len, MatchResult};
+ghost use Rattle.std.specs.Option.{option_to_list};
+
 use super::HeardReader;
 use crate::phase::Phase;
 use channels::Channel;
 use faults::Fault;
-use faults::fault::FaultFromRefused;
 use reading::Stopped;
 use records::Heard;
 
 // A record more, if there is one; without memory for it, none.
 fn keep(records: &mut Vec<Heard>, heard: Option<Heard>) -> Result<(), Fault>
-    ensures { λ r. ⌜ Cases r (λ _. vec-items (now (records .exit)) ≡ vec-items (now (records .entry)) ++ listOf heard) (λ e. (e ≡ FaultMemory) × (vec-items (now (records .exit)) ≡ vec-items (now (records .entry)))) ⌝ }
+    ensures { MatchResult result (λ _. records.new.items ≡ records.old.items ++ option_to_list heard) (λ e. (e ≡ FaultMemory) × (records.new.items ≡ records.old.items)) }
 {
     if let Some(heard) = heard {
         records.push(heard)?;
@@ -29,7 +25,7 @@ fn keep(records: &mut Vec<Heard>, heard: Option<Heard>) -> Result<(), Fault>
 impl HeardReader {
     // The reader after the bytes of a piece, whose records are put behind those that are there; where memory fails, some of them are.
     fn feed_bytes(self, piece: &[u8], records: &mut Vec<Heard>) -> Result<HeardReader, Fault>
-        ensures { λ r. ⌜ Cases r (λ reader. Fed self (now (piece .entry)) (vec-items (now (records .entry))) reader (vec-items (now (records .exit)))) (λ e. (e ≡ FaultMemory) × (take (vec-len (now (records .entry))) (vec-items (now (records .exit))) ≡ vec-items (now (records .entry)))) ⌝ }
+        ensures { MatchResult result (λ reader. Fed self piece.now records.old.items reader records.new.items) (λ e. (e ≡ FaultMemory) × (take (vec_len records.old) records.new.items ≡ records.old.items)) }
     {
         let mut reader = self;
         for b in piece {
@@ -45,7 +41,7 @@ impl HeardReader {
     // The reader after a piece, whose records that became whole are put behind those that are there. Without memory for them
     // `Fault::Memory`, and the records stay as they were; this reader can be fed the piece again.
     pub fn feed(self, piece: &[u8], records: &mut Vec<Heard>) -> Result<HeardReader, Fault>
-        ensures { λ r. ⌜ Cases r (λ reader. Fed self (now (piece .entry)) (vec-items (now (records .entry))) reader (vec-items (now (records .exit)))) (λ e. (e ≡ FaultMemory) × (vec-items (now (records .exit)) ≡ vec-items (now (records .entry)))) ⌝ }
+        ensures { MatchResult result (λ reader. Fed self piece.now records.old.items reader records.new.items) (λ e. (e ≡ FaultMemory) × (records.new.items ≡ records.old.items)) }
     {
         let before = records.len();
         match self.feed_bytes(piece, records) {
@@ -59,7 +55,7 @@ impl HeardReader {
 
     // The channel of the input, once its record was read.
     pub fn channel(self) -> Option<Channel>
-        ensures { λ r. ⌜ settingsIf r ≡ comingOf self [] .channel ⌝ }
+        ensures { settings_if result ≡ (coming_of self []).channel }
     {
         match self.phase {
             Phase::Opening => None,
@@ -70,8 +66,8 @@ impl HeardReader {
 
     // Where the reading stopped, if no more bytes come; none at the end of a record.
     pub fn finish(self) -> Option<Stopped>
-        ensures stopped { λ r. ⌜ r ≡ comingOf self [] .stopped ⌝ }
-        ensures nothing { λ r. ⌜ comingOf self [] .given ≡ [] ⌝ }
+        ensures stopped { result ≡ (coming_of self []).stopped }
+        ensures nothing { (coming_of self []).given ≡ [] }
     {
         match self.phase {
             Phase::Opening => Some(Stopped {

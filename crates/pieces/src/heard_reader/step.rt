@@ -1,26 +1,21 @@
 // One byte more.
-ghost use Prim.Native.Nat.{ℕ, _+_, _<_};
-ghost use Rattle·channels.specs.Settings.{settings};
-ghost use Rattle·pieces·specs.Coming.{after, answered};
-ghost use Rattle·pieces·specs.Readers.{comingOf};
-ghost use Rattle·readers.specs.Inputs.{readInput};
-ghost use Rattle·reading.specs.Formats.{heardFormat};
-ghost use Rattle·reading.specs.Reading.{readFrom};
-ghost use Rattle·records.specs.Channels.{channelIn};
-ghost use Rattle·records.specs.Hearing.{heardIn};
-ghost use Rattle·records.specs.declared.found.Found.the-variants.{Short};
-ghost use Rattle·std.specs.Vec.{listOf};
-ghost use Rattle·std.specs.declared.option.Option.the-variants.{Some};
-ghost use lib.ListN.{take};
-ghost use mathlib.Core.List.{List, [], _++_, _∷_};
-ghost use mathlib.Core.Path.{_≡_};
+ghost use Rattle.std.specs.Prelude.{◌≡◌, ℕ, ◌+◌, ◌<◌, List, [], ◌∷◌, ◌++◌, take, Some};
+ghost use Rattle.channels.specs.Settings.{settings};
+ghost use Rattle.pieces.specs.Coming.{after, answered};
+ghost use Rattle.pieces.specs.Readers.{coming_of};
+ghost use Rattle.readers.specs.Inputs.{read_input};
+ghost use Rattle.reading.specs.Formats.{heard_format};
+ghost use Rattle.reading.specs.Reading.{read_from};
+ghost use Rattle.records.specs.Channels.{channel_in};
+ghost use Rattle.records.specs.Hearing.{heard_in};
+ghost use Rattle.records.specs.declared.found.Found.TheVariants.{Short};
+ghost use Rattle.std.specs.Option.{option_to_list};
+
 use super::HeardReader;
 use crate::phase::Phase;
 use channels::Channel;
 use reading::Stopped;
-use records::Found;
-use records::Heard;
-use records::channel_first;
+use records::{Found, Heard, channel_first};
 
 // A reader after a byte, and the record that the byte made whole.
 #[derive(Clone, Copy)]
@@ -31,9 +26,9 @@ pub struct Step {
 
 // These bytes with one more in this place.
 fn with(held: [u8; 20], count: u8, b: u8) -> [u8; 20]
-    requires { ⌜ count < 20 ⌝ }
-    ensures before { λ r. ⌜ take count r ≡ take count held ⌝ }
-    ensures more { λ r. ⌜ take (count + 1) r ≡ take count held ++ (b ∷ []) ⌝ }
+    requires { count < 20 }
+    ensures before { take count result ≡ take count held }
+    ensures more { take (count + 1) result ≡ take count held ++ (b ∷ []) }
 {
     let mut longer = held;
     longer[usize::from(count)] = b;
@@ -42,9 +37,9 @@ fn with(held: [u8; 20], count: u8, b: u8) -> [u8; 20]
 
 // A reader of a channel's record, of which `before` bytes were held and one came.
 fn opened(held: [u8; 20], before: u8) -> Step
-    requires few { ⌜ before < 20 ⌝ }
-    requires waited { ⌜ channelIn (take before held) ≡ Short ⌝ }
-    ensures { λ r. ⌜ ((more : List ℕ) → answered (readInput (λ c. heardFormat (c .q)) (take (before + 1) held ++ more)) ≡ after (listOf (r .heard)) (comingOf (r .reader) more)) ⌝ }
+    requires few { before < 20 }
+    requires waited { channel_in (take before held) ≡ Short }
+    ensures { (more : List ℕ) → answered (read_input (λ c. heard_format c.q) (take (before + 1) held ++ more)) ≡ after (option_to_list result.heard) (coming_of result.reader more) }
 {
     let count = before + 1;
     match channel_first(&held[..usize::from(count)]) {
@@ -80,9 +75,9 @@ fn opened(held: [u8; 20], before: u8) -> Step
 
 // A reader of a record of what was heard, of which `before` bytes were held and one came.
 fn heard_in(channel: Channel, low: u64, byte: u64, held: [u8; 20], before: u8) -> Step
-    requires few { ⌜ before < 20 ⌝ }
-    requires waited { ⌜ heardIn (channel .q) low (take before held) ≡ Short ⌝ }
-    ensures { λ r. ⌜ ((more : List ℕ) → answered (record { channel = Some (settings channel); reading = readFrom (heardFormat (channel .q)) low byte 0 (take (before + 1) held ++ more) }) ≡ after (listOf (r .heard)) (comingOf (r .reader) more)) ⌝ }
+    requires few { before < 20 }
+    requires waited { heard_in channel.q low (take before held) ≡ Short }
+    ensures { (more : List ℕ) → answered (record { channel = Some (settings channel); reading = read_from (heard_format channel.q) low byte 0 (take (before + 1) held ++ more) }) ≡ after (option_to_list result.heard) (coming_of result.reader more) }
 {
     let count = before + 1;
     match Heard::first(channel, low, &held[..usize::from(count)]) {
@@ -119,7 +114,7 @@ fn heard_in(channel: Channel, low: u64, byte: u64, held: [u8; 20], before: u8) -
 impl HeardReader {
     // A reader at the beginning of an input: it will give what reading the whole gives.
     pub fn new() -> HeardReader
-        ensures { λ r. ⌜ ((bytes : List ℕ) → comingOf r bytes ≡ answered (readInput (λ c. heardFormat (c .q)) bytes)) ⌝ }
+        ensures { (bytes : List ℕ) → coming_of result bytes ≡ answered (read_input (λ c. heard_format c.q) bytes) }
     {
         let phase = Phase::Opening;
         HeardReader {
@@ -132,7 +127,7 @@ impl HeardReader {
 
     // The reader after one byte more, and the record of what was heard that the byte made whole.
     pub fn step(self, b: u8) -> Step
-        ensures { λ r. ⌜ ((more : List ℕ) → comingOf self (b ∷ more) ≡ after (listOf (r .heard)) (comingOf (r .reader) more)) ⌝ }
+        ensures { (more : List ℕ) → coming_of self (b ∷ more) ≡ after (option_to_list result.heard) (coming_of result.reader more) }
     {
         let held = with(self.held, self.count, b);
         match self.phase {

@@ -1,6 +1,6 @@
 -- The term of the system's record.
-use Rattle·readings·proofs.System.{coded}
-use Rattle·readings·proofs.coded.Needs as need
+use Rattle.readings.proofs.System.{coded}
+use Rattle.readings.proofs.coded.Goals as goal
 
-pub returns : need.returns
+pub returns : goal.returns
 returns c = coded

@@ -1,6 +1,6 @@
 -- The five words.
-use Rattle·readings·proofs.Split.{majority}
-use Rattle·readings·proofs.majority.Needs as need
+use Rattle.readings.proofs.Split.{majority}
+use Rattle.readings.proofs.majority.Goals as goal
 
-pub returns : need.returns
+pub returns : goal.returns
 returns c = majority

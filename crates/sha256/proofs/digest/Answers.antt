@@ -1,7 +1,7 @@
-use borrow.Author.Needs.{needs}
-use Rattle·std.proofs.shelf.Lists.{length-append}
-use Rattle·sha256·proofs.Zones.{digest-blocks}
-use Rattle·sha256·proofs.digest.Needs as need
+use Rattle.std.proofs.Common.{rules}
+use Rattle.std.proofs.lemmas.List.{length-append}
+use Rattle.sha256.proofs.Zones.{digest_blocks}
+use Rattle.sha256.proofs.digest.Goals as goal
 
-pub returns : need.returns
-returns c = search (needs, digest-blocks, length-append)
+pub returns : goal.returns
+returns c = search (rules, digest_blocks, length-append)

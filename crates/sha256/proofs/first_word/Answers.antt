@@ -1,6 +1,6 @@
-use borrow.Author.Needs.{needs}
-use Rattle·sha256·proofs.Nine.{nine-digest}
-use Rattle·sha256·proofs.first_word.Needs as need
+use Rattle.std.proofs.Common.{rules}
+use Rattle.sha256.proofs.Nine.{nine_digest}
+use Rattle.sha256.proofs.first_word.Goals as goal
 
-pub returns : need.returns
-returns c = search (needs, nine-digest)
+pub returns : goal.returns
+returns c = search (rules, nine_digest)

@@ -1,9 +1,9 @@
-use borrow.Author.Needs.{needs}
-use Rattle·sha256·proofs.Zones.{blocks-none, blocks-more}
-use Rattle·sha256·proofs.hash.Needs as need
+use Rattle.std.proofs.Common.{rules}
+use Rattle.sha256.proofs.Zones.{blocks_none, blocks_more}
+use Rattle.sha256.proofs.hash.Goals as goal
 
-pub loop-n-holds : need.loop-n-holds
-loop-n-holds c = search (needs, blocks-none)
+pub loop-n-init : goal.loop-n-init
+loop-n-init c = search (rules, blocks_none)
 
-pub loop-n-again : need.loop-n-again
-loop-n-again c = search (needs, blocks-more)
+pub loop-n-preserved : goal.loop-n-preserved
+loop-n-preserved c = search (rules, blocks_more)

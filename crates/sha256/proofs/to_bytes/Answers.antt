@@ -1,12 +1,12 @@
-use borrow.Author.Needs.{needs}
-use Rattle·sha256·proofs.Steps.{bytes-none, bytes-more, bytes-all}
-use Rattle·sha256·proofs.to_bytes.Needs as need
+use Rattle.std.proofs.Common.{rules}
+use Rattle.sha256.proofs.Steps.{bytes_none, bytes_more, bytes_all}
+use Rattle.sha256.proofs.to_bytes.Goals as goal
 
-pub loop-i-holds : need.loop-i-holds
-loop-i-holds c = search (needs, bytes-none)
+pub loop-i-init : goal.loop-i-init
+loop-i-init c = search (rules, bytes_none)
 
-pub loop-i-again : need.loop-i-again
-loop-i-again c = search (needs, bytes-more)
+pub loop-i-preserved : goal.loop-i-preserved
+loop-i-preserved c = search (rules, bytes_more)
 
-pub returns : need.returns
-returns c = search (needs, bytes-all)
+pub returns : goal.returns
+returns c = search (rules, bytes_all)

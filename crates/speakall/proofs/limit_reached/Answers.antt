@@ -1,6 +1,6 @@
 -- The theorem of proofs/Reached.antt.
-use Rattle·speakall·proofs.Reached.{reached}
-use Rattle·speakall·proofs.limit_reached.Needs as need
+use Rattle.speakall.proofs.Reached.{reached}
+use Rattle.speakall.proofs.limit_reached.Goals as goal
 
-pub returns : need.returns
+pub returns : goal.returns
 returns c = reached

@@ -1,6 +1,6 @@
 -- The theorem of proofs/Example.antt.
-use Rattle·speakall·proofs.Example.{nine-plans}
-use Rattle·speakall·proofs.nine_plans.Needs as need
+use Rattle.speakall.proofs.Example.{nine_plans}
+use Rattle.speakall.proofs.nine_plans.Goals as goal
 
-pub returns : need.returns
-returns c = nine-plans
+pub returns : goal.returns
+returns c = nine_plans

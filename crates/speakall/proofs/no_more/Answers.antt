@@ -1,6 +1,6 @@
 -- The theorem of proofs/Limit.antt.
-use Rattle·speakall·proofs.Limit.{no-more}
-use Rattle·speakall·proofs.no_more.Needs as need
+use Rattle.speakall.proofs.Limit.{no_more}
+use Rattle.speakall.proofs.no_more.Goals as goal
 
-pub returns : need.returns
-returns c = no-more
+pub returns : goal.returns
+returns c = no_more

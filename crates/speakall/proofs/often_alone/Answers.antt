@@ -1,6 +1,6 @@
 -- The theorem of proofs/Alone.antt.
-use Rattle·speakall·proofs.Alone.{often-alone}
-use Rattle·speakall·proofs.often_alone.Needs as need
+use Rattle.speakall.proofs.Alone.{often_alone}
+use Rattle.speakall.proofs.often_alone.Goals as goal
 
-pub returns : need.returns
-returns c = often-alone
+pub returns : goal.returns
+returns c = often_alone

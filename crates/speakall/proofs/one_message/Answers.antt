@@ -1,6 +1,6 @@
 -- The theorem of proofs/Whole.antt.
-use Rattle·speakall·proofs.Whole.{one-message}
-use Rattle·speakall·proofs.one_message.Needs as need
+use Rattle.speakall.proofs.Whole.{one_message}
+use Rattle.speakall.proofs.one_message.Goals as goal
 
-pub returns : need.returns
-returns c = one-message
+pub returns : goal.returns
+returns c = one_message

@@ -1,6 +1,6 @@
 -- The theorem of proofs/Words.antt.
-use Rattle·speakall·proofs.Words.{only-one}
-use Rattle·speakall·proofs.only_one.Needs as need
+use Rattle.speakall.proofs.Words.{only_one}
+use Rattle.speakall.proofs.only_one.Goals as goal
 
-pub returns : need.returns
-returns c = only-one
+pub returns : goal.returns
+returns c = only_one

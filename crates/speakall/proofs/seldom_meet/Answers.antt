@@ -1,6 +1,6 @@
 -- The theorem of proofs/Meet.antt.
-use Rattle·speakall·proofs.Meet.{seldom-meet}
-use Rattle·speakall·proofs.seldom_meet.Needs as need
+use Rattle.speakall.proofs.Meet.{seldom_meet}
+use Rattle.speakall.proofs.seldom_meet.Goals as goal
 
-pub returns : need.returns
-returns c = seldom-meet
+pub returns : goal.returns
+returns c = seldom_meet

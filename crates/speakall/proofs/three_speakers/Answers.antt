@@ -1,6 +1,6 @@
 -- The theorem of proofs/Example.antt.
-use Rattle·speakall·proofs.Example.{three-speakers}
-use Rattle·speakall·proofs.three_speakers.Needs as need
+use Rattle.speakall.proofs.Example.{three_speakers}
+use Rattle.speakall.proofs.three_speakers.Goals as goal
 
-pub returns : need.returns
-returns c = three-speakers
+pub returns : goal.returns
+returns c = three_speakers

@@ -1,6 +1,6 @@
 -- The theorem of proofs/Whole.antt.
-use Rattle·speakall·proofs.Whole.{whole}
-use Rattle·speakall·proofs.whole_promise.Needs as need
+use Rattle.speakall.proofs.Whole.{whole}
+use Rattle.speakall.proofs.whole_promise.Goals as goal
 
-pub returns : need.returns
+pub returns : goal.returns
 returns c = whole

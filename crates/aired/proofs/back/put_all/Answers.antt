@@ -1,28 +1,27 @@
-use borrow.Author.Needs.{needs}
-use mathlib.Core.Path.{refl, ap, sym, _∙_}
-use Rattle·channels.specs.Settings.{settings}
-use Rattle·aired·proofs.Taking.{placed-more, outside-more, outside-here, placed-all, outside-all}
-use Rattle·aired·proofs.back.put_all.Needs as need
+use Rattle.std.proofs.Common.{sym, refl, ap, ◌∙◌, rules}
+use Rattle.channels.specs.Settings.{settings}
+use Rattle.aired.proofs.Taking.{placed_more, outside_more, outside_here, placed_all, outside_all}
+use Rattle.aired.proofs.back.put_all.Goals as goal
 
-pub returns-in-Break-put-one : need.returns-in-Break-put-one
-returns-in-Break-put-one c =
-    let same = ap settings (c .loop-heard .inv .0) in
-    let out = sym (c .loop-heard .inv .2) ∙ outside-here _ _ same _ _ _ _ _ (c .loop-heard-test .taken) refl _ (c .in-Break-put-one .ensures tt .cases) in
-    record { same = c .put-one .ensures .same ∙ c .loop-heard .inv .0; cases = search (needs, out) }
+pub returns-in_err-put_one : goal.returns-in_err-put_one
+returns-in_err-put_one c =
+    let same = ap settings c.loop-heard.invariant.0 in
+    let out = sym c.loop-heard.invariant.2 ∙ outside_here _ _ same _ _ _ _ _ c.loop-heard-test.true refl _ c.in_err-put_one.ensures.cases in
+    record { same = c.put_one.ensures.same ∙ c.loop-heard.invariant.0; cases = search (rules, out) }
 
-pub loop-heard-again : need.loop-heard-again
-loop-heard-again c =
-    let same = ap settings (c .loop-heard .inv .0) in
-    let here = c .in-Continue-put-one .ensures tt .cases in (
-      c .put-one .ensures .same ∙ c .loop-heard .inv .0,
-      placed-more _ _ same _ _ _ _ _ (c .loop-heard-test .taken) refl _ _ (here .1) ∙ c .loop-heard .inv .1,
-      outside-more _ _ same _ _ _ _ _ (c .loop-heard-test .taken) refl (here .0) ∙ c .loop-heard .inv .2,
+pub loop-heard-preserved : goal.loop-heard-preserved
+loop-heard-preserved c =
+    let same = ap settings c.loop-heard.invariant.0 in
+    let here = c.in_ok-put_one.ensures.cases in (
+      c.put_one.ensures.same ∙ c.loop-heard.invariant.0,
+      placed_more _ _ same _ _ _ _ _ c.loop-heard-test.true refl _ _ here.1 ∙ c.loop-heard.invariant.1,
+      outside_more _ _ same _ _ _ _ _ c.loop-heard-test.true refl here.0 ∙ c.loop-heard.invariant.2,
     )
 
-pub returns : need.returns
+pub returns : goal.returns
 returns c =
-    let end = c .loop-heard-test .left in
+    let end = c.loop-heard-test.false in
     record {
-      same = c .loop-heard .inv .0;
-      cases = (sym (c .loop-heard .inv .2) ∙ outside-all _ _ _ _ end, sym (placed-all _ _ _ _ _ end) ∙ c .loop-heard .inv .1);
+      same = c.loop-heard.invariant.0;
+      cases = (sym c.loop-heard.invariant.2 ∙ outside_all _ _ _ _ end, sym (placed_all _ _ _ _ _ end) ∙ c.loop-heard.invariant.1);
     }

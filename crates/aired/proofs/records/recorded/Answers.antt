@@ -1,19 +1,18 @@
-use borrow.Author.Needs.{needs}
-use native.Mathlib.Omega.{arith}
-use Rattle·aired·proofs.Recording.{part-lt, there-at, records-none, records-more}
-use Rattle·aired·proofs.records.recorded.Needs as need
+use Rattle.std.proofs.Common.{arith, rules}
+use Rattle.aired.proofs.Recording.{part_lt, there_at, records_none, records_more}
+use Rattle.aired.proofs.records.recorded.Goals as goal
 
-pub loop-i-holds : need.loop-i-holds
-loop-i-holds c = search (needs, records-none)
+pub loop-i-init : goal.loop-i-init
+loop-i-init c = search (rules, records_none)
 
-pub cast-part : need.cast-part
-cast-part c =
-    let q = c .args .channel .q in
-    let below = part-lt q (c .loop-i .i) (omega arith) (omega arith) in
-    search (needs, below)
+pub overflow_cast-part : goal.overflow_cast-part
+overflow_cast-part c =
+    let q = c.args.channel.q in
+    let below = part_lt q c.loop-i.i (omega arith) (omega arith) in
+    search (rules, below)
 
-pub what-of-what-requires : need.what-of-what-requires
-what-of-what-requires c κs = search (needs, there-at)
+pub what_of-what-requires : goal.what_of-what-requires
+what_of-what-requires c = search (rules, there_at)
 
-pub loop-i-again : need.loop-i-again
-loop-i-again c = search (needs, records-more)
+pub loop-i-preserved : goal.loop-i-preserved
+loop-i-preserved c = search (rules, records_more)

@@ -1,33 +1,32 @@
-use borrow.Author.Needs.{needs}
-use mathlib.Core.Path.{ap, sym, _∙_}
-use Rattle·channels.specs.Settings.{settings}
-use Rattle·aired·proofs.Returning.{came-back, never-none, same-channel, only-memory, bytes-are, returned}
-use Rattle·aired·proofs.whole.through_bytes.Needs as need
+use Rattle.std.proofs.Common.{sym, ap, ◌∙◌, rules}
+use Rattle.channels.specs.Settings.{settings}
+use Rattle.aired.proofs.Returning.{came_back, never_none, same-channel, only_memory, bytes_are, returned}
+use Rattle.aired.proofs.whole.through_bytes.Goals as goal
 
-pub returns-in-rest : need.returns-in-rest
-returns-in-rest c =
-    let came = came-back (settings (c .args .frame .now .channel)) _ _ _ (c .args .frame .now .channel .wide) (c .args .frame .now .channel .narrow) (ap settings (c .channel .ensures)) _ _ _ _ (c .in-Continue-input .input) (c .in-Continue-records .ensures tt) (c .deref .ensures .value)
-    (c .in-Continue-bytes .ensures tt .back) (c .deref-2 .ensures .value) (c .in-Continue-input .ensures tt) in
-    absurd (never-none _ _ (c .in-rest .is) (came .0))
+pub returns-in_default : goal.returns-in_default
+returns-in_default c =
+    let came = came_back (settings c.args.frame.now.channel) _ _ _ c.args.frame.now.channel.wide c.args.frame.now.channel.narrow (ap settings c.channel.ensures) _ _ _ _ c.in_ok-input.input c.in_ok-records.ensures c.deref.ensures.value
+    c.in_ok-bytes.ensures.back c.deref-2.ensures.value c.in_ok-input.ensures in
+    absurd (never_none _ _ c.in_default.is came.0)
 
-pub returns-in-Break-frame : need.returns-in-Break-frame
-returns-in-Break-frame c =
-    let came = came-back (settings (c .args .frame .now .channel)) _ _ _ (c .args .frame .now .channel .wide) (c .args .frame .now .channel .narrow) (ap settings (c .channel .ensures)) _ _ _ _ (c .in-Continue-input .input) (c .in-Continue-records .ensures tt) (c .deref .ensures .value)
-    (c .in-Continue-bytes .ensures tt .back) (c .deref-2 .ensures .value) (c .in-Continue-input .ensures tt) in
-    let same = same-channel _ _ _ (c .in-Some .is) (came .0) in
-    let memory = only-memory (settings (c .args .frame .now .channel)) _ _ _ (c .args .frame .now .channel .wide) (c .args .frame .now .channel .narrow) same _ _ _ (came .1) (c .deref-3 .ensures .value) (c .in-Break-frame .ensures tt .placed) in
-    record { bytes = search (needs, memory); back = search needs }
+pub returns-in_err-frame : goal.returns-in_err-frame
+returns-in_err-frame c =
+    let came = came_back (settings c.args.frame.now.channel) _ _ _ c.args.frame.now.channel.wide c.args.frame.now.channel.narrow (ap settings c.channel.ensures) _ _ _ _ c.in_ok-input.input c.in_ok-records.ensures c.deref.ensures.value
+    c.in_ok-bytes.ensures.back c.deref-2.ensures.value c.in_ok-input.ensures in
+    let same = same-channel _ _ _ c.in-Some.is came.0 in
+    let memory = only_memory (settings c.args.frame.now.channel) _ _ _ c.args.frame.now.channel.wide c.args.frame.now.channel.narrow same _ _ _ came.1 c.deref-3.ensures.value c.in_err-frame.ensures.placed in
+    record { bytes = search (rules, memory); back = search rules }
 
-pub returns : need.returns
+pub returns : goal.returns
 returns c =
-    let came = came-back (settings (c .args .frame .now .channel)) _ _ _ (c .args .frame .now .channel .wide) (c .args .frame .now .channel .narrow) (ap settings (c .channel .ensures)) _ _ _ _ (c .in-Continue-input .input) (c .in-Continue-records .ensures tt) (c .deref .ensures .value)
-    (c .in-Continue-bytes .ensures tt .back) (c .deref-2 .ensures .value) (c .in-Continue-input .ensures tt) in
-    let same = same-channel _ _ _ (c .in-Some .is) (came .0) in
-    let end = c .in-Continue-frame .ensures tt in
+    let came = came_back (settings c.args.frame.now.channel) _ _ _ c.args.frame.now.channel.wide c.args.frame.now.channel.narrow (ap settings c.channel.ensures) _ _ _ _ c.in_ok-input.input c.in_ok-records.ensures c.deref.ensures.value
+    c.in_ok-bytes.ensures.back c.deref-2.ensures.value c.in_ok-input.ensures in
+    let same = same-channel _ _ _ c.in-Some.is came.0 in
+    let end = c.in_ok-frame.ensures in
     record {
       bytes = (
-        bytes-are (settings (c .args .frame .now .channel)) _ _ _ (c .args .frame .now .channel .wide) (c .args .frame .now .channel .narrow) (ap settings (c .channel .ensures)) _ _ _ (c .in-Continue-records .ensures tt) (c .deref .ensures .value) (c .in-Continue-bytes .ensures tt .bytes),
-        ap settings (end .placed .0) ∙ same,
+        bytes_are (settings c.args.frame.now.channel) _ _ _ c.args.frame.now.channel.wide c.args.frame.now.channel.narrow (ap settings c.channel.ensures) _ _ _ c.in_ok-records.ensures c.deref.ensures.value c.in_ok-bytes.ensures.bytes,
+        ap settings end.placed.0 ∙ same,
       );
-      back = returned (settings (c .args .frame .now .channel)) _ _ _ (c .args .frame .now .channel .wide) (c .args .frame .now .channel .narrow) same _ _ _ (came .1) (c .deref-3 .ensures .value) (sym (c .args .frame .now .slots .ok .0) ∙ c .args .frame .now .whole) (c .args .frame .now .there) (end .kept);
+      back = returned (settings c.args.frame.now.channel) _ _ _ c.args.frame.now.channel.wide c.args.frame.now.channel.narrow same _ _ _ came.1 c.deref-3.ensures.value (sym c.args.frame.now.slots.ok.0 ∙ c.args.frame.now.whole) c.args.frame.now.there end.kept;
     }

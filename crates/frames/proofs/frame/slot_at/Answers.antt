@@ -1,6 +1,6 @@
-use native.Mathlib.Omega.{arith}
-use Rattle·frames·proofs.Places.{place-lt}
-use Rattle·frames·proofs.frame.slot_at.Needs as need
+use Rattle.std.proofs.Common.{arith}
+use Rattle.frames.proofs.Places.{place_lt}
+use Rattle.frames.proofs.frame.slot_at.Goals as goal
 
-pub index-slots-part : need.index-slots-part
-index-slots-part c = omega (arith, place-lt (c .args .q) (c .args .part) (c .args .y) (c .pre .part) (c .pre .slot))
+pub bounds-slots-part : goal.bounds-slots-part
+bounds-slots-part c = omega (arith, place_lt c.args.q c.args.part c.args.y c.requires.part c.requires.slot)

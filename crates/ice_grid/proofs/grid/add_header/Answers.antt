@@ -1,9 +1,9 @@
-use Rattle·std.specs.Of.Vec.{vec-items}
-use Rattle·ice_grid·proofs.Signs.{header-here, header-not}
-use Rattle·ice_grid·proofs.grid.add_header.Needs as need
+use Rattle.std.proofs.Common.{vec_items}
+use Rattle.ice_grid.proofs.Signs.{header_here, header_not}
+use Rattle.ice_grid.proofs.grid.add_header.Goals as goal
 
-pub returns-in-Continue-push : need.returns-in-Continue-push
-returns-in-Continue-push c = header-here (c .args .q) (c .args .place) (vec-items (c .args .lines .now)) (vec-items (c .push .last .self)) _ (c .if-place-q .taken) (c .in-Continue-header .ensures tt) (c .in-Continue-push .ensures tt .items)
+pub returns-in_ok-push : goal.returns-in_ok-push
+returns-in_ok-push c = header_here c.args.q c.args.place (vec_items c.args.lines.now) (vec_items c.push.new.self) _ c.if-place-q.true c.in_ok-header.ensures c.in_ok-push.ensures.items
 
-pub returns-else-place-q : need.returns-else-place-q
-returns-else-place-q c = header-not (c .args .q) (c .args .place) (vec-items (c .args .lines .now)) (c .if-place-q .left)
+pub returns-else-place-q : goal.returns-else-place-q
+returns-else-place-q c = header_not c.args.q c.args.place (vec_items c.args.lines.now) c.if-place-q.false

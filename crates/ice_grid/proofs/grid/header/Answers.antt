@@ -1,12 +1,10 @@
-use borrow.Author.Needs.{needs}
-use lib.Chars.{codes}
-use Rattle·std.specs.Of.String.{string-bytes}
-use Rattle·ice_grid·proofs.Signs.{header-none, header-more}
-use Rattle·ice_grid·proofs.grid.header.Needs as need
+use Rattle.std.proofs.Common.{string_bytes, codes, rules}
+use Rattle.ice_grid.proofs.Signs.{header_none, header_more}
+use Rattle.ice_grid.proofs.grid.header.Goals as goal
 
-pub loop-part-holds : need.loop-part-holds
-loop-part-holds c = header-none (c .args .place) (codes "   ") (string-bytes (c .in-Continue-text .text)) (search needs)
+pub loop-part-init : goal.loop-part-init
+loop-part-init c = header_none c.args.place (codes "   ") (string_bytes c.in_ok-text.text) (search rules)
 
-pub loop-part-again : need.loop-part-again
-loop-part-again c =
-    header-more (c .args .place) (c .loop-part .part) (codes "   ") (string-bytes (c .loop-part .text)) (string-bytes (c .put .last .text)) (c .digit .result) (c .loop-part .inv) (c .digit .ensures) (c .in-Continue-put .ensures tt)
+pub loop-part-preserved : goal.loop-part-preserved
+loop-part-preserved c =
+    header_more c.args.place c.loop-part.part (codes "   ") (string_bytes c.loop-part.text) (string_bytes c.put.new.text) c.digit.result c.loop-part.invariant c.digit.ensures c.in_ok-put.ensures

@@ -1,6 +1,6 @@
-use borrow.Author.Needs.{needs}
-use Rattle·ice_grid·proofs.Signs.{put-both}
-use Rattle·ice_grid·proofs.grid.put.Needs as need
+use Rattle.std.proofs.Common.{rules}
+use Rattle.ice_grid.proofs.Signs.{put_both}
+use Rattle.ice_grid.proofs.grid.put.Goals as goal
 
-pub returns : need.returns
-returns c = search (needs, put-both)
+pub returns : goal.returns
+returns c = search (rules, put_both)

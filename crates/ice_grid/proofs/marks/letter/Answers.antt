@@ -1,12 +1,12 @@
-use borrow.Author.Needs.{needs}
-use Rattle·ice_grid·proofs.Signs.{letter-here, letter-more, letter-none}
-use Rattle·ice_grid·proofs.marks.letter.Needs as need
+use Rattle.std.proofs.Common.{rules}
+use Rattle.ice_grid.proofs.Signs.{letter_here, letter_more, letter_none}
+use Rattle.ice_grid.proofs.marks.letter.Goals as goal
 
-pub returns-then-numbers-i : need.returns-then-numbers-i
-returns-then-numbers-i c = search (needs, letter-here)
+pub returns-then-numbers-i : goal.returns-then-numbers-i
+returns-then-numbers-i c = search (rules, letter_here)
 
-pub loop-i-again : need.loop-i-again
-loop-i-again c = search (needs, letter-more)
+pub loop-i-preserved : goal.loop-i-preserved
+loop-i-preserved c = search (rules, letter_more)
 
-pub returns : need.returns
-returns c = search (needs, letter-none)
+pub returns : goal.returns
+returns c = search (rules, letter_none)

@@ -1,4 +1,4 @@
-use Rattle·ice_lines·proofs.answered.too_few.Needs as need
+use Rattle.ice_lines.proofs.answered.too_few.Goals as goal
 
-pub returns : need.returns
-returns c = simp (c .words-for-words .ensures) at (c .format .ensures .made)
+pub returns : goal.returns
+returns c = simp c.words_for-words.ensures at c.format.ensures.ok

@@ -1,11 +1,10 @@
-use borrow.Author.Needs.{needs}
-use Rattle·std.specs.Of.Vec.{vec-items}
-use Rattle·command_words.proofs.Grown.{mapped-more, mapped-all}
-use Rattle·ice_lines·specs.Lines.{partOf}
-use Rattle·ice_lines·proofs.hearing.parts_of.Needs as need
+use Rattle.std.proofs.Common.{vec_items, rules}
+use Rattle.command_words.proofs.Grown.{mapped_more, mapped_all}
+use Rattle.ice_lines.specs.Lines.{part_of}
+use Rattle.ice_lines.proofs.hearing.parts_of.Goals as goal
 
-pub loop-word-again : need.loop-word-again
-loop-word-again c = mapped-more partOf (c .args .words .now) (c .loop-word .word-index) (vec-items (c .loop-word .parts)) (vec-items (c .push .last .self)) _ _ (c .loop-word-test .taken) (c .loop-word .inv) (c .from .ensures) (c .in-Continue-push .ensures tt .items)
+pub loop-word-preserved : goal.loop-word-preserved
+loop-word-preserved c = mapped_more part_of c.args.words.now c.loop-word.word-index (vec_items c.loop-word.parts) (vec_items c.push.new.self) _ _ c.loop-word-test.true c.loop-word.invariant c.from.ensures c.in_ok-push.ensures.items
 
-pub returns : need.returns
-returns c = search (needs, mapped-all partOf)
+pub returns : goal.returns
+returns c = search (rules, mapped_all part_of)

@@ -1,12 +1,10 @@
-use borrow.Author.Needs.{needs}
-use mathlib.Core.Path.{refl}
-use Rattle·std.specs.Of.Vec.{vec-items}
-use Rattle·command_words.proofs.Grown.{mapped-more, mapped-all}
-use Rattle·ice_lines·specs.Lines.{valueOf}
-use Rattle·ice_lines·proofs.hearing.values_of.Needs as need
+use Rattle.std.proofs.Common.{vec_items, refl, rules}
+use Rattle.command_words.proofs.Grown.{mapped_more, mapped_all}
+use Rattle.ice_lines.specs.Lines.{value_of}
+use Rattle.ice_lines.proofs.hearing.values_of.Goals as goal
 
-pub loop-word-again : need.loop-word-again
-loop-word-again c = mapped-more valueOf (c .args .words .now) (c .loop-word .word-index) (vec-items (c .loop-word .values)) (vec-items (c .push .last .self)) _ _ (c .loop-word-test .taken) (c .loop-word .inv) refl (c .in-Continue-push .ensures tt .items)
+pub loop-word-preserved : goal.loop-word-preserved
+loop-word-preserved c = mapped_more value_of c.args.words.now c.loop-word.word-index (vec_items c.loop-word.values) (vec_items c.push.new.self) _ _ c.loop-word-test.true c.loop-word.invariant refl c.in_ok-push.ensures.items
 
-pub returns : need.returns
-returns c = search (needs, mapped-all valueOf)
+pub returns : goal.returns
+returns c = search (rules, mapped_all value_of)

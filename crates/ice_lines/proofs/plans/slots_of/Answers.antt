@@ -1,9 +1,9 @@
-use borrow.Author.Needs.{needs}
-use Rattle·ice_lines·proofs.Spaced.{slots-none, slots-more}
-use Rattle·ice_lines·proofs.plans.slots_of.Needs as need
+use Rattle.std.proofs.Common.{rules}
+use Rattle.ice_lines.proofs.Spaced.{slots_none, slots_more}
+use Rattle.ice_lines.proofs.plans.slots_of.Goals as goal
 
-pub loop-part-holds : need.loop-part-holds
-loop-part-holds c = search (needs, slots-none)
+pub loop-part-init : goal.loop-part-init
+loop-part-init c = search (rules, slots_none)
 
-pub loop-part-again : need.loop-part-again
-loop-part-again c = search (needs, slots-more)
+pub loop-part-preserved : goal.loop-part-preserved
+loop-part-preserved c = search (rules, slots_more)

@@ -1,12 +1,12 @@
-use borrow.Author.Needs.{needs}
-use Rattle·ice_lines·proofs.Spaced.{spaced-none, spaced-more, spaced-all}
-use Rattle·ice_lines·proofs.texts.spaced.Needs as need
+use Rattle.std.proofs.Common.{rules}
+use Rattle.ice_lines.proofs.Spaced.{spaced_none, spaced_more, spaced_all}
+use Rattle.ice_lines.proofs.texts.spaced.Goals as goal
 
-pub loop-n-holds : need.loop-n-holds
-loop-n-holds c = search (needs, spaced-none)
+pub loop-n-init : goal.loop-n-init
+loop-n-init c = search (rules, spaced_none)
 
-pub loop-n-again : need.loop-n-again
-loop-n-again c = search (needs, spaced-more)
+pub loop-n-preserved : goal.loop-n-preserved
+loop-n-preserved c = search (rules, spaced_more)
 
-pub returns : need.returns
-returns c = search (needs, spaced-all)
+pub returns : goal.returns
+returns c = search (rules, spaced_all)

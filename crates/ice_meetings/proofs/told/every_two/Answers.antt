@@ -1,14 +1,14 @@
-use Rattle·channels.specs.Settings.{settings}
-use Rattle·std.specs.Of.Vec.{vec-items}
-use Rattle·ice_meetings·specs.Meets.{linesIn}
-use Rattle·ice_meetings·proofs.Pairs.{two-more, two-all}
-use Rattle·ice_meetings·proofs.told.every_two.Needs as need
+use Rattle.channels.specs.Settings.{settings}
+use Rattle.std.proofs.Common.{vec_items}
+use Rattle.ice_meetings.specs.Meets.{lines_in}
+use Rattle.ice_meetings.proofs.Pairs.{two_more, two_all}
+use Rattle.ice_meetings.proofs.told.every_two.Goals as goal
 
-pub loop-i-holds : need.loop-i-holds
-loop-i-holds c = simp (c .new-lines .ensures .items)
+pub loop-i-init : goal.loop-i-init
+loop-i-init c = simp c.new-lines.ensures.items
 
-pub loop-i-again : need.loop-i-again
-loop-i-again c = two-more (settings (c .args .channel)) (c .args .numbers .now) (c .loop-i .i) (linesIn (vec-items (c .loop-i .lines))) _ (c .loop-i-test .taken) (c .in-Continue-meet-with .ensures tt) (c .loop-i .inv)
+pub loop-i-preserved : goal.loop-i-preserved
+loop-i-preserved c = two_more (settings c.args.channel) c.args.numbers.now c.loop-i.i (lines_in (vec_items c.loop-i.lines)) _ c.loop-i-test.true c.in_ok-meet_with.ensures c.loop-i.invariant
 
-pub returns : need.returns
-returns c = two-all (settings (c .args .channel)) (c .args .numbers .now) (c .loop-i .i) (linesIn (vec-items (c .loop-i .lines))) (c .loop-i-test .left) (c .loop-i .inv)
+pub returns : goal.returns
+returns c = two_all (settings c.args.channel) c.args.numbers.now c.loop-i.i (lines_in (vec_items c.loop-i.lines)) c.loop-i-test.false c.loop-i.invariant

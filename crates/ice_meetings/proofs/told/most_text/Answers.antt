@@ -1,4 +1,4 @@
-use Rattle·ice_meetings·proofs.told.most_text.Needs as need
+use Rattle.ice_meetings.proofs.told.most_text.Goals as goal
 
-pub returns : need.returns
-returns c = simp (c .parts-parts .ensures) at (c .format .ensures .made)
+pub returns : goal.returns
+returns c = simp c.parts-parts.ensures at c.format.ensures.ok

@@ -1,19 +1,19 @@
-use Rattle·channels.specs.Settings.{settings}
-use Rattle·ice_meetings·specs.Meets.{meetsIn}
-use Rattle·ice_meetings·proofs.Counting.{with-none, with-more, with-done, with-all}
-use Rattle·ice_meetings·proofs.told.most_with.Needs as need
+use Rattle.channels.specs.Settings.{settings}
+use Rattle.ice_meetings.specs.Meets.{meets_in}
+use Rattle.ice_meetings.proofs.Counting.{with_none, with_more, with_done, with_all}
+use Rattle.ice_meetings.proofs.told.most_with.Goals as goal
 
-pub loop-other-holds : need.loop-other-holds
-loop-other-holds c = with-none (c .args .limit) (meetsIn (settings (c .args .channel)) (c .args .number)) (c .args .others .now) (c .args .most) (c .pre)
+pub loop-other-init : goal.loop-other-init
+loop-other-init c = with_none c.args.limit (meets_in (settings c.args.channel) c.args.number) c.args.others.now c.args.most c.requires
 
-pub returns-then-top-limit : need.returns-then-top-limit
+pub returns-then-top-limit : goal.returns-then-top-limit
 returns-then-top-limit c =
-    with-done (c .args .limit) (meetsIn (settings (c .args .channel)) (c .args .number)) (c .args .others .now) (c .args .most) (c .loop-other .other-index) (c .loop-other .top) (c .if-top-limit .taken) (c .loop-other .inv)
+    with_done c.args.limit (meets_in (settings c.args.channel) c.args.number) c.args.others.now c.args.most c.loop-other.other-index c.loop-other.top c.if-top-limit.true c.loop-other.invariant
 
-pub loop-other-again : need.loop-other-again
-loop-other-again c =
-    with-more (c .args .limit) (meetsIn (settings (c .args .channel)) (c .args .number)) (c .args .others .now) (c .args .most) (c .loop-other .other-index) (c .loop-other .top) _ (c .min .result) (c .max-top .result) (c .loop-other-test .taken) (c .in-Continue-meeting .ensures tt .count) (c .min .ensures) (c .max-top .ensures) (c .loop-other .inv)
+pub loop-other-preserved : goal.loop-other-preserved
+loop-other-preserved c =
+    with_more c.args.limit (meets_in (settings c.args.channel) c.args.number) c.args.others.now c.args.most c.loop-other.other-index c.loop-other.top _ c.min.result c.max-top.result c.loop-other-test.true c.in_ok-meeting.ensures.count c.min.ensures c.max-top.ensures c.loop-other.invariant
 
-pub returns : need.returns
+pub returns : goal.returns
 returns c =
-    with-all (c .args .limit) (meetsIn (settings (c .args .channel)) (c .args .number)) (c .args .others .now) (c .args .most) (c .loop-other .other-index) (c .loop-other .top) (c .loop-other-test .left) (c .loop-other .inv)
+    with_all c.args.limit (meets_in (settings c.args.channel) c.args.number) c.args.others.now c.args.most c.loop-other.other-index c.loop-other.top c.loop-other-test.false c.loop-other.invariant

@@ -1,6 +1,6 @@
-use borrow.Author.Needs.{needs}
-use Rattle·ice_meetings·proofs.Pairs.{pair-line}
-use Rattle·ice_meetings·proofs.told.pair.Needs as need
+use Rattle.std.proofs.Common.{rules}
+use Rattle.ice_meetings.proofs.Pairs.{pair_line}
+use Rattle.ice_meetings.proofs.told.pair.Goals as goal
 
-pub returns : need.returns
-returns c = search (needs, pair-line)
+pub returns : goal.returns
+returns c = search (rules, pair_line)

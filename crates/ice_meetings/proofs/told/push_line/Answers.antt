@@ -1,6 +1,6 @@
-use borrow.Author.Needs.{needs}
-use Rattle·ice_meetings·proofs.Pairs.{line-push}
-use Rattle·ice_meetings·proofs.told.push_line.Needs as need
+use Rattle.std.proofs.Common.{rules}
+use Rattle.ice_meetings.proofs.Pairs.{line_push}
+use Rattle.ice_meetings.proofs.told.push_line.Goals as goal
 
-pub returns : need.returns
-returns c = search (needs, line-push)
+pub returns : goal.returns
+returns c = search (rules, line_push)

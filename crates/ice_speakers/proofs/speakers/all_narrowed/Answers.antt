@@ -1,11 +1,11 @@
-use Rattle·std.specs.Of.Vec.{vec-items}
-use Rattle·ice_speakers·specs.Wide.{narrow}
-use Rattle·command_words.proofs.Grown.{mapped-more, mapped-all}
-use Rattle·ice_speakers·proofs.speakers.all_narrowed.Needs as need
+use Rattle.std.proofs.Common.{vec_items}
+use Rattle.ice_speakers.specs.Wide.{narrow}
+use Rattle.command_words.proofs.Grown.{mapped_more, mapped_all}
+use Rattle.ice_speakers.proofs.speakers.all_narrowed.Goals as goal
 
-pub loop-n-again : need.loop-n-again
-loop-n-again c =
-    mapped-more narrow (c .args .numbers .now) (c .loop-n .n-index) (vec-items (c .loop-n .all)) (vec-items (c .push .last .self)) 0 (c .narrowed .result) (c .loop-n-test .taken) (c .loop-n .inv) (c .narrowed .ensures) (c .in-Continue-push .ensures tt .items)
+pub loop-n-preserved : goal.loop-n-preserved
+loop-n-preserved c =
+    mapped_more narrow c.args.numbers.now c.loop-n.n-index (vec_items c.loop-n.all) (vec_items c.push.new.self) 0 c.narrowed.result c.loop-n-test.true c.loop-n.invariant c.narrowed.ensures c.in_ok-push.ensures.items
 
-pub returns : need.returns
-returns c = mapped-all narrow (c .args .numbers .now) (c .loop-n .n-index) (vec-items (c .loop-n .all)) (c .loop-n-test .left) (c .loop-n .inv)
+pub returns : goal.returns
+returns c = mapped_all narrow c.args.numbers.now c.loop-n.n-index (vec_items c.loop-n.all) c.loop-n-test.false c.loop-n.invariant

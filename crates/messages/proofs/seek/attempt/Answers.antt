@@ -1,7 +1,7 @@
 -- What the polynomial through the words kept is.
-use borrow.Author.Needs.{needs}
-use Rattle·messages·proofs.Trying.{tried}
-use Rattle·messages·proofs.seek.attempt.Needs as need
+use Rattle.std.proofs.Common.{rules}
+use Rattle.messages.proofs.Trying.{tried}
+use Rattle.messages.proofs.seek.attempt.Goals as goal
 
-pub returns : need.returns
-returns c = let fitted = c .if-not-interpolate .ensures tt in tried _ _ _ _ _ _ (search needs) (fitted .2) (fitted .3) (c .near .ensures)
+pub returns : goal.returns
+returns c = let fitted = c.if-not-interpolate.ensures in tried _ _ _ _ _ _ (search rules) fitted.2 fitted.3 c.near.ensures

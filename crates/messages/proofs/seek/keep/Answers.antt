@@ -1,16 +1,16 @@
 -- One word more, left out or copied; and the end, with room or without.
-use borrow.Author.Needs.{needs}
-use Rattle·messages·proofs.Trying.{kept-end, kept-full, kept-more, kept-skip}
-use Rattle·messages·proofs.seek.keep.Needs as need
+use Rattle.std.proofs.Common.{rules}
+use Rattle.messages.proofs.Trying.{kept-end, kept_full, kept_more, kept-skip}
+use Rattle.messages.proofs.seek.keep.Goals as goal
 
-pub loop-i-again-then-is-out : need.loop-i-again-then-is-out
-loop-i-again-then-is-out c = (search needs, search (needs, kept-skip))
+pub loop-i-preserved-then-is_out : goal.loop-i-preserved-then-is_out
+loop-i-preserved-then-is_out c = (search rules, search (rules, kept-skip))
 
-pub loop-i-again : need.loop-i-again
-loop-i-again c = (search needs, search (needs, kept-more))
+pub loop-i-preserved : goal.loop-i-preserved
+loop-i-preserved c = (search rules, search (rules, kept_more))
 
-pub returns-after-loop-i : need.returns-after-loop-i
-returns-after-loop-i c = search (needs, kept-end)
+pub returns-after-loop-i : goal.returns-after-loop-i
+returns-after-loop-i c = search (rules, kept-end)
 
-pub returns-then-count-room : need.returns-then-count-room
-returns-then-count-room c = search (needs, kept-full)
+pub returns-then-count-room : goal.returns-then-count-room
+returns-then-count-room c = search (rules, kept_full)

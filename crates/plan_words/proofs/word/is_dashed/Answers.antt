@@ -1,7 +1,7 @@
 -- What `starts_with` says at an ASCII character.
-use lib.Dec.{lit<}
-use Rattle·std.proofs.shelf.Patterns.{starts-char}
-use Rattle·plan_words·proofs.word.is_dashed.Needs as need
+use Rattle.std.proofs.Common.{lit<}
+use Rattle.std.proofs.lemmas.Str.Pattern.{starts_char}
+use Rattle.plan_words.proofs.word.is_dashed.Goals as goal
 
-pub returns : need.returns
-returns c = starts-char 45 (c .args .text .now) (c .starts-with .result) (c .starts-with .ensures .cases) (lit< tt) (lit< tt)
+pub returns : goal.returns
+returns c = starts_char 45 c.args.text.now c.starts_with.result c.starts_with.ensures.cases (lit< tt) (lit< tt)

@@ -1,19 +1,19 @@
 -- The first side with a channel that serves has the fewest slots; after the last side there is none.
-use mathlib.Core.Path.{refl}
-use Rattle·planning·proofs.Search.{narrower-none, narrower-more, narrower-all, narrower-found}
-use Rattle·planning·proofs.first.narrowest.Needs as need
+use Rattle.std.proofs.Common.{refl}
+use Rattle.planning.proofs.Search.{narrower_none, narrower_more, narrower_all, narrower_found}
+use Rattle.planning.proofs.first.narrowest.Goals as goal
 
-pub loop-q-holds : need.loop-q-holds
-loop-q-holds c = narrower-none (c .args .wish)
+pub loop-q-init : goal.loop-q-init
+loop-q-init c = narrower_none c.args.wish
 
-pub returns-in-Some : need.returns-in-Some
+pub returns-in-Some : goal.returns-in-Some
 returns-in-Some c =
-    narrower-found (c .args .wish) (c .args .sides .now) (c .loop-q .q-index) (c .pre) (c .loop-q-test .taken) _ (c .in-Some .ensures tt) (c .loop-q .inv)
+    narrower_found c.args.wish c.args.sides.now c.loop-q.q-index c.requires c.loop-q-test.true _ c.in-Some.ensures c.loop-q.invariant
 
-pub loop-q-again : need.loop-q-again
-loop-q-again c =
-    narrower-more (c .args .wish) (c .args .sides .now) (c .loop-q .q-index) (c .pre) (c .loop-q-test .taken) (c .in-rest .ensures tt) (c .loop-q .inv)
+pub loop-q-preserved : goal.loop-q-preserved
+loop-q-preserved c =
+    narrower_more c.args.wish c.args.sides.now c.loop-q.q-index c.requires c.loop-q-test.true c.in_default.ensures c.loop-q.invariant
 
-pub returns : need.returns
+pub returns : goal.returns
 returns c =
-    (refl, narrower-all (c .args .wish) (c .args .sides .now) (c .loop-q .q-index) (c .pre) (c .loop-q-test .left) (c .loop-q .inv))
+    (refl, narrower_all c.args.wish c.args.sides.now c.loop-q.q-index c.requires c.loop-q-test.false c.loop-q.invariant)

@@ -1,17 +1,17 @@
 -- A channel that serves is put last; one that does not is passed.
-use Rattle·std.specs.Of.Vec.{vec-items}
-use Rattle·planning·specs.Wishes.{settingsOf}
-use Rattle·planning·proofs.Search.{list-passed, list-pushed}
-use Rattle·planning·proofs.list.add_side.Needs as need
-use Rattle·planning·proofs.list.add_side.Needs.{in-Some·in-Continue-keep, in-rest}
+use Rattle.std.proofs.Common.{vec_items}
+use Rattle.planning.specs.Wishes.{settings_of}
+use Rattle.planning.proofs.Search.{list_passed, list_pushed}
+use Rattle.planning.proofs.list.add_side.Goals as goal
+use Rattle.planning.proofs.list.add_side.Goals.{in-Some+in_ok-keep, in_default}
 
-pub loop-d-again : need.loop-d-again
-loop-d-again c =
-    elim (c .match-serving .came) [
-      | in-Some·in-Continue-keep w ↦
-          let e = w .in-Some .ensures tt in
-          simp (w .found-is, w .in-Continue-keep .ensures tt)
-          (list-pushed (c .args .wish) (c .args .q) (c .loop-d .d) (vec-items (c .loop-d .found)) (w .in-Some .channel) (e .0) (e .1) (c .loop-d .inv))
-      | in-rest w ↦
-          simp (w .found-is) (list-passed (c .args .wish) (c .args .q) (c .loop-d .d) (settingsOf (vec-items (c .loop-d .found))) (w .in-rest .ensures tt) (c .loop-d .inv))
+pub loop-d-preserved : goal.loop-d-preserved
+loop-d-preserved c =
+    elim c.match-serving.branch [
+      | in-Some+in_ok-keep w ↦
+          let e = w.in-Some.ensures in
+          simp (w.found-is, w.in_ok-keep.ensures)
+          (list_pushed c.args.wish c.args.q c.loop-d.d (vec_items c.loop-d.found) w.in-Some.channel e.0 e.1 c.loop-d.invariant)
+      | in_default w ↦
+          simp w.found-is (list_passed c.args.wish c.args.q c.loop-d.d (settings_of (vec_items c.loop-d.found)) w.in_default.ensures c.loop-d.invariant)
     ]

@@ -1,13 +1,13 @@
 -- What is left decides at each turn, at a stop and at the end.
-use borrow.Author.Needs.{needs}
-use Rattle·polynomials·proofs.Left.{below-more, below-stop, below-all}
-use Rattle·polynomials·proofs.checks.are_below.Needs as need
+use Rattle.std.proofs.Common.{rules}
+use Rattle.polynomials.proofs.Left.{below_more, below_stop, below_all}
+use Rattle.polynomials.proofs.checks.are_below.Goals as goal
 
-pub loop-value-again : need.loop-value-again
-loop-value-again c = search (needs, below-more)
+pub loop-value-preserved : goal.loop-value-preserved
+loop-value-preserved c = search (rules, below_more)
 
-pub returns-then-value-limit : need.returns-then-value-limit
-returns-then-value-limit c = search (needs, below-stop)
+pub returns-then-value-limit : goal.returns-then-value-limit
+returns-then-value-limit c = search (rules, below_stop)
 
-pub returns : need.returns
-returns c = search (needs, below-all)
+pub returns : goal.returns
+returns c = search (rules, below_all)

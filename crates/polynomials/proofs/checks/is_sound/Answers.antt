@@ -1,30 +1,28 @@
 -- One word more from the end on.
-use mathlib.Core.Path.{refl, sym, _∙_}
-use borrow.Author.Needs.{needs}
-use Prim.Native.Nat.{_-_, _<_}
-use Rattle·polynomials·proofs.Sound.{seen-more, sound-all, sound-more, sound-none, seen-none, sound-off, sound-twice}
-use Rattle·polynomials·proofs.checks.is_sound.Needs as need
-use Rattle·polynomials·proofs.checks.is_sound.Needs.{then-seen-word·by·then-seen-word, then-seen-word·by·else-seen-word·then-not-is-word}
-use Rattle·polynomials·specs.Heard.{partAt}
+use Rattle.std.proofs.Common.{◌-◌, ◌<◌, sym, refl, ◌∙◌, rules}
+use Rattle.polynomials.proofs.Sound.{seen_more, sound_all, sound_more, sound_none, seen_none, sound_off, sound_twice}
+use Rattle.polynomials.proofs.checks.is_sound.Goals as goal
+use Rattle.polynomials.proofs.checks.is_sound.Goals.{then-seen-word-via-then-seen-word, then-seen-word-via-else-seen-word+then-not-is_word}
+use Rattle.polynomials.specs.Heard.{part_at}
 
-pub loop-i-holds : need.loop-i-holds
-loop-i-holds c = (refl, seen-none (c .args .words .now), sound-none _ (c .args .words .now))
+pub loop-i-init : goal.loop-i-init
+loop-i-init c = (refl, seen_none c.args.words.now, sound_none _ c.args.words.now)
 
-pub loop-i-again : need.loop-i-again
-loop-i-again c =
-    let part : partAt (c .args .words .now) (c .loop-i .i - 1) < 256 = search needs in (
-      search needs,
-      seen-more _ _ (c .loop-i-test .taken) (c .loop-i .kept .i) _ (c .loop-i .inv .0) part (c .loop-i .inv .1),
-      sound-more _ _ (c .loop-i-test .taken) (c .loop-i .kept .i) _ (sym (c .loop-i .inv .1 _ part) ∙ c .if-seen-word .left) (c .if-not-is-word .ensures tt) (c .loop-i .inv .2),
+pub loop-i-preserved : goal.loop-i-preserved
+loop-i-preserved c =
+    let part : part_at c.args.words.now (c.loop-i.i - 1) < 256 = search rules in (
+      search rules,
+      seen_more _ _ c.loop-i-test.true c.loop-i.auto.i _ c.loop-i.invariant.0 part c.loop-i.invariant.1,
+      sound_more _ _ c.loop-i-test.true c.loop-i.auto.i _ (sym (c.loop-i.invariant.1 _ part) ∙ c.if-seen-word.false) c.if-not-is_word.ensures c.loop-i.invariant.2,
     )
 
-pub returns-then-seen-word : need.returns-then-seen-word
+pub returns-then-seen-word : goal.returns-then-seen-word
 returns-then-seen-word c =
-    let part : partAt (c .args .words .now) (c .loop-i .i - 1) < 256 = search needs in
-    elim (c .then-seen-word .came) [
-      | then-seen-word·by·then-seen-word w ↦ sound-twice _ _ (c .loop-i-test .taken) (c .loop-i .kept .i) _ (sym (c .loop-i .inv .1 _ part) ∙ w .if-seen-word .taken)
-      | then-seen-word·by·else-seen-word·then-not-is-word w ↦ sound-off _ _ (c .loop-i-test .taken) (c .loop-i .kept .i) _ (w .if-not-is-word .ensures tt)
+    let part : part_at c.args.words.now (c.loop-i.i - 1) < 256 = search rules in
+    elim c.then-seen-word.branch [
+      | then-seen-word-via-then-seen-word w ↦ sound_twice _ _ c.loop-i-test.true c.loop-i.auto.i _ (sym (c.loop-i.invariant.1 _ part) ∙ w.if-seen-word.true)
+      | then-seen-word-via-else-seen-word+then-not-is_word w ↦ sound_off _ _ c.loop-i-test.true c.loop-i.auto.i _ w.if-not-is_word.ensures
     ]
 
-pub returns : need.returns
-returns c = search (needs, sound-all)
+pub returns : goal.returns
+returns c = search (rules, sound_all)

@@ -1,10 +1,10 @@
 -- One word more, off or not, and the end.
-use borrow.Author.Needs.{needs}
-use Rattle·polynomials·proofs.Left.{off-all, off-more}
-use Rattle·polynomials·proofs.checks.off.Needs as need
+use Rattle.std.proofs.Common.{rules}
+use Rattle.polynomials.proofs.Left.{off_all, off_more}
+use Rattle.polynomials.proofs.checks.off.Goals as goal
 
-pub loop-word-again : need.loop-word-again
-loop-word-again c = (search needs, search (needs, off-more))
+pub loop-word-preserved : goal.loop-word-preserved
+loop-word-preserved c = (search rules, search (rules, off_more))
 
-pub returns : need.returns
-returns c = search (needs, off-all)
+pub returns : goal.returns
+returns c = search (rules, off_all)

@@ -1,7 +1,7 @@
 -- The whole table passes its test.
-use borrow.Author.Needs.{needs}
-use Rattle·polynomials·proofs.Table.{inverse-at}
-use Rattle·polynomials·proofs.inverses.inverse.Needs as need
+use Rattle.std.proofs.Common.{rules}
+use Rattle.polynomials.proofs.Table.{inverse_at}
+use Rattle.polynomials.proofs.inverses.inverse.Goals as goal
 
-pub returns : need.returns
-returns c = search (needs, inverse-at)
+pub returns : goal.returns
+returns c = search (rules, inverse_at)

@@ -1,10 +1,10 @@
 -- Either sign of the difference.
-use borrow.Author.Needs.{needs}
-use Rattle·polynomials·proofs.Table.{inverse-above, inverse-under}
-use Rattle·polynomials·proofs.inverses.inverse_of_difference.Needs as need
+use Rattle.std.proofs.Common.{rules}
+use Rattle.polynomials.proofs.Table.{inverse_above, inverse_under}
+use Rattle.polynomials.proofs.inverses.inverse_of_difference.Goals as goal
 
-pub returns-then-a-x : need.returns-then-a-x
-returns-then-a-x c = search (needs, inverse-above)
+pub returns-then-a-x : goal.returns-then-a-x
+returns-then-a-x c = search (rules, inverse_above)
 
-pub returns-else-a-x : need.returns-else-a-x
-returns-else-a-x c = search (needs, inverse-under)
+pub returns-else-a-x : goal.returns-else-a-x
+returns-else-a-x c = search (rules, inverse_under)

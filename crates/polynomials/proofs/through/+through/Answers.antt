@@ -1,33 +1,30 @@
 -- The words left are sound, and the polynomial through their slopes gives the one through all.
-use borrow.Author.Needs.{needs}
-use Prim.Native.Nat.{_<_}
-use Rattle·polynomials·proofs.Points.{reduced-first, reduced-left, through-more}
-use Rattle·polynomials·proofs.Sound.{sound-apart, sound-first, sound-left}
-use Rattle·polynomials·proofs.through.+through.Needs as need
-use Rattle·std.proofs.shelf.Lists.{take-rest}
-use lib.ListN.{length}
+use Rattle.std.proofs.Common.{◌<◌, length, rules}
+use Rattle.polynomials.proofs.Points.{reduced_first, reduced_left, through_more}
+use Rattle.polynomials.proofs.Sound.{sound_apart, sound-first, sound-left}
+use Rattle.polynomials.proofs.through.+through.Goals as goal
+use Rattle.std.proofs.lemmas.List.{take_rest}
 
-pub slopes-requires : need.slopes-requires
-slopes-requires t c κs =
-    let some : 0 < length (c .args .words .now) = search needs in
+pub slopes-requires : goal.slopes-requires
+slopes-requires t c =
+    let some : 0 < length c.args.words.now = search rules in
     record {
-      long = search needs;
-      first = (sound-first 251 _ some (c .pre .sound), c .pre .reduced 0);
-      apart = sound-apart 251 _ _ (take-rest (c .args .words .now) 1) some (c .pre .sound);
-      reduced = reduced-left _ _ (take-rest (c .args .values .now) 1) (c .pre .reduced);
+      long = search rules;
+      first = (sound-first 251 _ some c.requires.sound, c.requires.reduced 0);
+      apart = sound_apart 251 _ _ (take_rest c.args.words.now 1) some c.requires.sound;
+      reduced = reduced_left _ _ (take_rest c.args.values.now 1) c.requires.reduced;
     }
 
-pub through-requires : need.through-requires
-through-requires t c κs = (search needs, (search needs, (sound-left 251 _ _ (take-rest (c .args .words .now) 1) (c .pre .sound), c .slopes .ensures .reduced)))
+pub through-requires : goal.through-requires
+through-requires t c = (search rules, (search rules, (sound-left 251 _ _ (take_rest c.args.words.now 1) c.requires.sound, c.slopes.ensures.reduced)))
 
-pub times-requires : need.times-requires
-times-requires t c κs = let some : 0 < length (c .args .values .now) = search needs in reduced-first _ _ some (c .pre .reduced) (c .through .ensures .reduced)
+pub times-requires : goal.times-requires
+times-requires t c = let some : 0 < length c.args.values.now = search rules in reduced_first _ _ some c.requires.reduced c.through.ensures.reduced
 
-pub returns : need.returns
+pub returns : goal.returns
 returns t c =
-    let some : 0 < length (c .args .values .now) = search needs in
+    let some : 0 < length c.args.values.now = search rules in
     record {
-      reduced = c .times .ensures .reduced;
-      through = through-more _ _ _ _ _ _ _ (take-rest (c .args .words .now) 1) (take-rest (c .args .values .now) 1) (c .pre .long) some (c .pre .reduced) (c .slopes .ensures .slopes) (
-          c .through .ensures .through) (c .times .ensures .product);
+      reduced = c.times.ensures.reduced;
+      through = through_more _ _ _ _ _ _ _ (take_rest c.args.words.now 1) (take_rest c.args.values.now 1) c.requires.long some c.requires.reduced c.slopes.ensures.slopes c.through.ensures.through c.times.ensures.product;
     }

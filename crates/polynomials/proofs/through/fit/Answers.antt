@@ -1,26 +1,24 @@
 -- The values of sound words are reduced, and a polynomial that has them lies on the words.
-use mathlib.Core.Path.{_∙_}
-use borrow.Author.Needs.{needs}
-use native.Mathlib.Omega.{arith}
-use Rattle·polynomials·proofs.Points.{agrees-values, reduced-values}
-use Rattle·polynomials·proofs.Sound.{valueAt}
-use Rattle·polynomials·proofs.through.fit.Needs as need
-use Rattle·std.proofs.shelf.Edits.{fill-by-more}
+use Rattle.std.proofs.Common.{◌∙◌, arith, rules}
+use Rattle.polynomials.proofs.Points.{agrees_values, reduced_values}
+use Rattle.polynomials.proofs.Sound.{value_at}
+use Rattle.polynomials.proofs.through.fit.Goals as goal
+use Rattle.std.proofs.lemmas.List.Edits.{fill_by_more}
 
-pub loop-i-again : need.loop-i-again
-loop-i-again c = fill-by-more (valueAt (c .args .words .now)) _ _ 0 (search needs) (c .loop-i .inv)
+pub loop-i-preserved : goal.loop-i-preserved
+loop-i-preserved c = fill_by_more (value_at c.args.words.now) _ _ 0 (search rules) c.loop-i.invariant
 
-pub through-requires : need.through-requires
-through-requires c κs =
+pub through-requires : goal.through-requires
+through-requires c =
     record {
-      long = search needs;
-      sound = c .pre .sound;
-      reduced = reduced-values 251 _ (c .args .words .now) _ (search needs) (c .pre .sound) (search needs) (c .loop-i .inv);
+      long = search rules;
+      sound = c.requires.sound;
+      reduced = reduced_values 251 _ c.args.words.now _ (search rules) c.requires.sound (search rules) c.loop-i.invariant;
     }
 
-pub returns : need.returns
+pub returns : goal.returns
 returns c =
     record {
-      reduced = c .through .ensures .reduced;
-      agrees = agrees-values _ (c .args .words .now) (λ k lt. c .through .ensures .through k lt ∙ c .loop-i .inv k (omega arith));
+      reduced = c.through.ensures.reduced;
+      agrees = agrees_values _ c.args.words.now (λ k lt. c.through.ensures.through k lt ∙ c.loop-i.invariant k (omega arith));
     }

@@ -1,7 +1,7 @@
 -- The rise times the inverse of the way.
-use borrow.Author.Needs.{needs}
-use Rattle·polynomials·proofs.Points.{slope-is}
-use Rattle·polynomials·proofs.through.slope.Needs as need
+use Rattle.std.proofs.Common.{rules}
+use Rattle.polynomials.proofs.Points.{slope_is}
+use Rattle.polynomials.proofs.through.slope.Goals as goal
 
-pub returns : need.returns
-returns c = search (needs, slope-is)
+pub returns : goal.returns
+returns c = search (rules, slope_is)

@@ -1,13 +1,13 @@
 -- The loop starts at no coefficient, and ends at all.
-use borrow.Author.Needs.{needs}
-use Rattle·polynomials·proofs.Horner.{wordAt-none, wordAt-more, wordAt-all}
-use Rattle·polynomials·proofs.words.value.Needs as need
+use Rattle.std.proofs.Common.{rules}
+use Rattle.polynomials.proofs.Horner.{word_at_none, word_at_more, word_at_all}
+use Rattle.polynomials.proofs.words.value.Goals as goal
 
-pub loop-i-holds : need.loop-i-holds
-loop-i-holds c = search (needs, wordAt-none)
+pub loop-i-init : goal.loop-i-init
+loop-i-init c = search (rules, word_at_none)
 
-pub loop-i-again : need.loop-i-again
-loop-i-again c = search (needs, wordAt-more)
+pub loop-i-preserved : goal.loop-i-preserved
+loop-i-preserved c = search (rules, word_at_more)
 
-pub returns : need.returns
-returns c = record { below = c .loop-i .inv .0; is = λ y e. wordAt-all _ _ _ y _ (c .loop-i-test .left) e (c .loop-i .inv .1) }
+pub returns : goal.returns
+returns c = record { below = c.loop-i.invariant.0; is = λ y e. word_at_all _ _ _ y _ c.loop-i-test.false e c.loop-i.invariant.1 }

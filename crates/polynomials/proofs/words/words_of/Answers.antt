@@ -1,7 +1,7 @@
 -- One word more.
-use Rattle·polynomials·proofs.Horner.{words-more}
-use Rattle·polynomials·proofs.words.words_of.Needs as need
-use borrow.Author.Needs.{needs}
+use Rattle.polynomials.proofs.Horner.{words_more}
+use Rattle.polynomials.proofs.words.words_of.Goals as goal
+use Rattle.std.proofs.Common.{rules}
 
-pub loop-part-again : need.loop-part-again
-loop-part-again c = search (needs, words-more)
+pub loop-part-preserved : goal.loop-part-preserved
+loop-part-preserved c = search (rules, words_more)

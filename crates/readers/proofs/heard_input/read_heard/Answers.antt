@@ -1,11 +1,11 @@
-use Rattle·reading.specs.Formats.{heardFormat}
-use Rattle·reading.proofs.Cuts.{fault-stays, last-lost}
-use Rattle·reading.proofs.HeardLaws.{heard-lawful}
-use Rattle·readers·proofs.heard_input.read_heard.Needs as need
+use Rattle.reading.specs.Formats.{heard_format}
+use Rattle.reading.proofs.Cuts.{fault_stays, last_lost}
+use Rattle.reading.proofs.HeardLaws.{heard_lawful}
+use Rattle.readers.proofs.heard_input.read_heard.Goals as goal
 
-pub returns : need.returns
+pub returns : goal.returns
 returns c = record {
-  read = c .heard-to-end .ensures;
-  stays = fault-stays (heardFormat (c .args .channel .q)) (heard-lawful (c .args .channel .q));
-  lost = last-lost (heardFormat (c .args .channel .q)) (heard-lawful (c .args .channel .q));
+  read = c.heard_to_end.ensures;
+  stays = fault_stays (heard_format c.args.channel.q) (heard_lawful c.args.channel.q);
+  lost = last_lost (heard_format c.args.channel.q) (heard_lawful c.args.channel.q);
 }

@@ -1,18 +1,17 @@
-use borrow.Author.Needs.{needs}
-use mathlib.Core.Path.{_∙_, ap, sym}
-use Rattle·channels.specs.Settings.{settings}
-use Rattle·records.specs.Channels.{settled}
-use Rattle·readers·proofs.Wholes.{channel-long, heard-input}
-use Rattle·readers·proofs.heard_input.read_heard_input.Needs as need
+use Rattle.std.proofs.Common.{sym, ap, ◌∙◌, rules}
+use Rattle.channels.specs.Settings.{settings}
+use Rattle.records.specs.Channels.{settled}
+use Rattle.readers.proofs.Wholes.{channel_long, heard_input}
+use Rattle.readers.proofs.heard_input.read_heard_input.Goals as goal
 
-pub part-read-heard-count : need.part-read-heard-count
-part-read-heard-count c = channel-long (c .args .bytes .now) (settings (c .in-Whole .channel)) (sym (c .channel-first-found .ensures) ∙ ap settled (c .in-Whole .is))
+pub slice_bounds-read_heard-count : goal.slice_bounds-read_heard-count
+slice_bounds-read_heard-count c = channel_long c.args.bytes.now (settings c.in-Whole.channel) (sym c.channel_first-found.ensures ∙ ap settled c.in-Whole.is)
 
-pub part-read-heard-start : need.part-read-heard-start
-part-read-heard-start c =
-    let l = channel-long (c .args .bytes .now) (settings (c .in-Whole .channel)) (sym (c .channel-first-found .ensures) ∙ ap settled (c .in-Whole .is)) in
-    search needs
+pub slice_bounds-read_heard-start : goal.slice_bounds-read_heard-start
+slice_bounds-read_heard-start c =
+    let l = channel_long c.args.bytes.now (settings c.in-Whole.channel) (sym c.channel_first-found.ensures ∙ ap settled c.in-Whole.is) in
+    search rules
 
-pub returns : need.returns
+pub returns : goal.returns
 returns c =
-    heard-input (c .args .bytes .now) (c .in-Whole .channel) (c .in-Continue-heard .heard) (sym (c .channel-first-found .ensures) ∙ ap settled (c .in-Whole .is)) (c .in-Continue-heard .ensures tt .read)
+    heard_input c.args.bytes.now c.in-Whole.channel c.in_ok-heard.heard (sym c.channel_first-found.ensures ∙ ap settled c.in-Whole.is) c.in_ok-heard.ensures.read

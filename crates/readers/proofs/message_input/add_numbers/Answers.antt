@@ -1,16 +1,13 @@
-use borrow.Author.Needs.{needs}
-use Prim.Native.Nat.{_≤_, _<_}
-use lib.ListN.{length}
-use Rattle·std.specs.Of.Vec.{vec-items}
-use Rattle·records.proofs.Fours.{numbers-push, numbers-end}
-use Rattle·readers·proofs.message_input.add_numbers.Needs as need
+use Rattle.std.proofs.Common.{◌<◌, ◌≤◌, length, vec_items, rules}
+use Rattle.records.proofs.Fours.{numbers_push, numbers_end}
+use Rattle.readers.proofs.message_input.add_numbers.Goals as goal
 
-pub loop-left-again : need.loop-left-again
-loop-left-again c =
-    let long : 4 ≤ length (c .loop-left .left .now) = search needs in
-    numbers-push (vec-items (c .loop-left .numbers)) (vec-items (c .push .last .self)) _ (c .loop-left .left .now) (c .from-be-bytes .result) (c .loop-left .inv) (c .from-be-bytes .ensures) (c .in-Continue-push .ensures tt .items) long
+pub loop-left-preserved : goal.loop-left-preserved
+loop-left-preserved c =
+    let long : 4 ≤ length c.loop-left.left.now = search rules in
+    numbers_push (vec_items c.loop-left.numbers) (vec_items c.push.new.self) _ c.loop-left.left.now c.from_be_bytes.result c.loop-left.invariant c.from_be_bytes.ensures c.in_ok-push.ensures.items long
 
-pub returns : need.returns
+pub returns : goal.returns
 returns c =
-    let few : length (c .loop-left .left .now) < 4 = search needs in
-    numbers-end (vec-items (c .loop-left .numbers)) _ (c .loop-left .left .now) (c .loop-left .inv) few
+    let few : length c.loop-left.left.now < 4 = search rules in
+    numbers_end (vec_items c.loop-left.numbers) _ c.loop-left.left.now c.loop-left.invariant few

@@ -1,18 +1,17 @@
-use borrow.Author.Needs.{needs}
-use mathlib.Core.Path.{_∙_, ap, sym}
-use Rattle·channels.specs.Settings.{settings}
-use Rattle·records.specs.Channels.{settled}
-use Rattle·readers·proofs.Wholes.{channel-long, message-input}
-use Rattle·readers·proofs.message_input.read_message_input.Needs as need
+use Rattle.std.proofs.Common.{sym, ap, ◌∙◌, rules}
+use Rattle.channels.specs.Settings.{settings}
+use Rattle.records.specs.Channels.{settled}
+use Rattle.readers.proofs.Wholes.{channel_long, message_input}
+use Rattle.readers.proofs.message_input.read_message_input.Goals as goal
 
-pub part-read-messages-count : need.part-read-messages-count
-part-read-messages-count c = channel-long (c .args .bytes .now) (settings (c .in-Whole .channel)) (sym (c .channel-first-found .ensures) ∙ ap settled (c .in-Whole .is))
+pub slice_bounds-read_messages-count : goal.slice_bounds-read_messages-count
+slice_bounds-read_messages-count c = channel_long c.args.bytes.now (settings c.in-Whole.channel) (sym c.channel_first-found.ensures ∙ ap settled c.in-Whole.is)
 
-pub part-read-messages-start : need.part-read-messages-start
-part-read-messages-start c =
-    let l = channel-long (c .args .bytes .now) (settings (c .in-Whole .channel)) (sym (c .channel-first-found .ensures) ∙ ap settled (c .in-Whole .is)) in
-    search needs
+pub slice_bounds-read_messages-start : goal.slice_bounds-read_messages-start
+slice_bounds-read_messages-start c =
+    let l = channel_long c.args.bytes.now (settings c.in-Whole.channel) (sym c.channel_first-found.ensures ∙ ap settled c.in-Whole.is) in
+    search rules
 
-pub returns : need.returns
+pub returns : goal.returns
 returns c =
-    message-input (c .args .bytes .now) (c .in-Whole .channel) (c .in-Continue-messages .messages) (sym (c .channel-first-found .ensures) ∙ ap settled (c .in-Whole .is)) (c .in-Continue-messages .ensures tt .read)
+    message_input c.args.bytes.now c.in-Whole.channel c.in_ok-messages.messages (sym c.channel_first-found.ensures ∙ ap settled c.in-Whole.is) c.in_ok-messages.ensures.read

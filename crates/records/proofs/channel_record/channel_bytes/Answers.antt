@@ -1,5 +1,5 @@
-use Rattle·records·proofs.Back.{channel-back}
-use Rattle·records·proofs.channel_record.channel_bytes.Needs as need
+use Rattle.records.proofs.Back.{channel_back}
+use Rattle.records.proofs.channel_record.channel_bytes.Goals as goal
 
-pub returns : need.returns
-returns c = record { bytes = c .laid-out .ensures; back = channel-back (c .args .channel) (c .laid-out .result) (c .laid-out .ensures) }
+pub returns : goal.returns
+returns c = record { bytes = c.laid_out.ensures; back = channel_back c.args.channel c.laid_out.result c.laid_out.ensures }

@@ -1,6 +1,6 @@
-use borrow.Author.Needs.{needs}
-use Rattle·records·proofs.Items.{joined-items}
-use Rattle·records·proofs.heard.joined.Needs as need
+use Rattle.std.proofs.Common.{rules}
+use Rattle.records.proofs.Items.{joined_items}
+use Rattle.records.proofs.heard.joined.Goals as goal
 
-pub returns : need.returns
-returns c = search (needs, joined-items)
+pub returns : goal.returns
+returns c = search (rules, joined_items)

@@ -1,6 +1,6 @@
-use borrow.Author.Needs.{needs}
-use Rattle·records·proofs.Items.{twelve-items}
-use Rattle·records·proofs.heard.word_in.Needs as need
+use Rattle.std.proofs.Common.{rules}
+use Rattle.records.proofs.Items.{twelve_items}
+use Rattle.records.proofs.heard.word_in.Goals as goal
 
-pub returns : need.returns
-returns c = search (needs, twelve-items)
+pub returns : goal.returns
+returns c = search (rules, twelve_items)

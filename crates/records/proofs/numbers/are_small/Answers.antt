@@ -1,19 +1,16 @@
-use borrow.Author.Needs.{needs}
-use mathlib.Core.Path.{_∙_}
-use Prim.Native.Nat.{_≤_}
-use lib.ListN.{length}
-use Rattle·records·proofs.Fours.{small-more, small-not, small-none}
-use Rattle·records·proofs.numbers.are_small.Needs as need
+use Rattle.std.proofs.Common.{◌≤◌, length, ◌∙◌, rules}
+use Rattle.records.proofs.Fours.{small_more, small-not, small_none}
+use Rattle.records.proofs.numbers.are_small.Goals as goal
 
-pub loop-left-again : need.loop-left-again
-loop-left-again c =
-    let long : 4 ≤ length (c .loop-left .left .now) = search needs in
-    small-more (c .loop-left .left .now) (c .from-be-bytes .result) (c .from-be-bytes .ensures) long (c .if-from-be-bytes-ge-LIMIT .left) ∙ c .loop-left .inv
+pub loop-left-preserved : goal.loop-left-preserved
+loop-left-preserved c =
+    let long : 4 ≤ length c.loop-left.left.now = search rules in
+    small_more c.loop-left.left.now c.from_be_bytes.result c.from_be_bytes.ensures long c.if-from_be_bytes-ge-LIMIT.false ∙ c.loop-left.invariant
 
-pub returns-then-from-be-bytes-ge-LIMIT : need.returns-then-from-be-bytes-ge-LIMIT
-returns-then-from-be-bytes-ge-LIMIT c =
-    let long : 4 ≤ length (c .loop-left .left .now) = search needs in
-    small-not (c .loop-left .left .now) (c .from-be-bytes .result) (c .from-be-bytes .ensures) long (c .if-from-be-bytes-ge-LIMIT .taken) ∙ c .loop-left .inv
+pub returns-then-from_be_bytes-ge-LIMIT : goal.returns-then-from_be_bytes-ge-LIMIT
+returns-then-from_be_bytes-ge-LIMIT c =
+    let long : 4 ≤ length c.loop-left.left.now = search rules in
+    small-not c.loop-left.left.now c.from_be_bytes.result c.from_be_bytes.ensures long c.if-from_be_bytes-ge-LIMIT.true ∙ c.loop-left.invariant
 
-pub returns : need.returns
-returns c = small-none (c .loop-left .left .now) (search needs) ∙ c .loop-left .inv
+pub returns : goal.returns
+returns c = small_none c.loop-left.left.now (search rules) ∙ c.loop-left.invariant

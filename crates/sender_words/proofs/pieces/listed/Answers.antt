@@ -1,29 +1,27 @@
 -- Each piece is read; the last has nothing after it.
-use borrow.Author.Needs.{needs}
-use mathlib.Core.Path.{ap, sym, _∙_}
-use Rattle·std.specs.Of.Vec.{vec-items}
-use Rattle·sender_words·specs.Pieces.{lent}
-use Rattle·sender_words·proofs.Cutting.{begun-none, begun-more, begun-all, begun-wrong, shorter}
-use Rattle·sender_words·proofs.pieces.listed.Needs as need
+use Rattle.std.proofs.Common.{vec_items, sym, ap, ◌∙◌, rules}
+use Rattle.sender_words.specs.Pieces.{lent}
+use Rattle.sender_words.proofs.Cutting.{begun_none, begun_more, begun_all, begun_wrong, shorter}
+use Rattle.sender_words.proofs.pieces.listed.Goals as goal
 
-pub loop-n-holds : need.loop-n-holds
-loop-n-holds c = (search needs, simp (c .new-numbers .ensures .items) (begun-none (c .args .text .now)))
+pub loop-n-init : goal.loop-n-init
+loop-n-init c = (search rules, simp c.new-numbers.ensures.items (begun_none c.args.text.now))
 
-pub returns-in-rest : need.returns-in-rest
-returns-in-rest c =
-    begun-wrong (c .args .text .now) (c .loop-n .rest .now) (vec-items (c .loop-n .numbers)) (c .loop-n .inv .1) (rw (c .cut .ensures .front) at (c .in-rest .ensures tt))
+pub returns-in_default : goal.returns-in_default
+returns-in_default c =
+    begun_wrong c.args.text.now c.loop-n.rest.now (vec_items c.loop-n.numbers) c.loop-n.invariant.1 (rw c.cut.ensures.front at c.in_default.ensures)
 
-pub returns-in-rest-back : need.returns-in-rest-back
-returns-in-rest-back c =
-    simp (c .in-Continue-push .ensures tt .items)
-    (begun-all (c .args .text .now) (c .loop-n .rest .now) (vec-items (c .loop-n .numbers)) (c .loop-n .inv .1) (c .in-Some .n) (sym (c .cut .ensures .back) ∙ ap lent (c .in-rest-back .is)) (rw (c .cut .ensures .front) at (c .in-Some .ensures tt)))
+pub returns-in_default-back : goal.returns-in_default-back
+returns-in_default-back c =
+    simp c.in_ok-push.ensures.items
+    (begun_all c.args.text.now c.loop-n.rest.now (vec_items c.loop-n.numbers) c.loop-n.invariant.1 c.in-Some.n (sym c.cut.ensures.back ∙ ap lent c.in_default-back.is) (rw c.cut.ensures.front at c.in-Some.ensures))
 
-pub loop-n-less : need.loop-n-less
-loop-n-less c = shorter 44 (c .loop-n .rest .now) (c .in-Some-back .next .now) (sym (c .cut .ensures .back) ∙ ap lent (c .in-Some-back .is))
+pub loop-n-smaller : goal.loop-n-smaller
+loop-n-smaller c = shorter 44 c.loop-n.rest.now c.in-Some-back.next.now (sym c.cut.ensures.back ∙ ap lent c.in-Some-back.is)
 
-pub loop-n-again : need.loop-n-again
-loop-n-again c = (
-  search needs,
-  simp (c .in-Continue-push .ensures tt .items)
-      (begun-more (c .args .text .now) (c .loop-n .rest .now) (vec-items (c .loop-n .numbers)) (c .loop-n .inv .1) (c .in-Some-back .next .now) (c .in-Some .n) (sym (c .cut .ensures .back) ∙ ap lent (c .in-Some-back .is)) (rw (c .cut .ensures .front) at (c .in-Some .ensures tt))),
+pub loop-n-preserved : goal.loop-n-preserved
+loop-n-preserved c = (
+  search rules,
+  simp c.in_ok-push.ensures.items
+      (begun_more c.args.text.now c.loop-n.rest.now (vec_items c.loop-n.numbers) c.loop-n.invariant.1 c.in-Some-back.next.now c.in-Some.n (sym c.cut.ensures.back ∙ ap lent c.in-Some-back.is) (rw c.cut.ensures.front at c.in-Some.ensures)),
 )

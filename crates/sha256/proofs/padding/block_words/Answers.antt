@@ -1,9 +1,9 @@
-use borrow.Author.Needs.{needs}
-use Rattle·sha256·proofs.Zones.{words-none, words-more}
-use Rattle·sha256·proofs.padding.block_words.Needs as need
+use Rattle.std.proofs.Common.{rules}
+use Rattle.sha256.proofs.Zones.{words_none, words_more}
+use Rattle.sha256.proofs.padding.block_words.Goals as goal
 
-pub loop-j-holds : need.loop-j-holds
-loop-j-holds c = search (needs, words-none)
+pub loop-j-init : goal.loop-j-init
+loop-j-init c = search (rules, words_none)
 
-pub loop-j-again : need.loop-j-again
-loop-j-again c = search (needs, words-more)
+pub loop-j-preserved : goal.loop-j-preserved
+loop-j-preserved c = search (rules, words_more)

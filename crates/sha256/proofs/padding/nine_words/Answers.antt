@@ -1,6 +1,6 @@
-use borrow.Author.Needs.{needs}
-use Rattle·sha256·proofs.Nine.{nine-words}
-use Rattle·sha256·proofs.padding.nine_words.Needs as need
+use Rattle.std.proofs.Common.{rules}
+use Rattle.sha256.proofs.Nine.{nine_words}
+use Rattle.sha256.proofs.padding.nine_words.Goals as goal
 
-pub returns : need.returns
-returns c = search (needs, nine-words)
+pub returns : goal.returns
+returns c = search (rules, nine_words)

@@ -1,9 +1,9 @@
-use borrow.Author.Needs.{needs}
-use Rattle·sha256·proofs.Steps.{rounds-none, rounds-more}
-use Rattle·sha256·proofs.rounds.all_rounds.Needs as need
+use Rattle.std.proofs.Common.{rules}
+use Rattle.sha256.proofs.Steps.{rounds_none, rounds_more}
+use Rattle.sha256.proofs.rounds.all_rounds.Goals as goal
 
-pub loop-i-holds : need.loop-i-holds
-loop-i-holds c = search (needs, rounds-none)
+pub loop-i-init : goal.loop-i-init
+loop-i-init c = search (rules, rounds_none)
 
-pub loop-i-again : need.loop-i-again
-loop-i-again c = search (needs, rounds-more)
+pub loop-i-preserved : goal.loop-i-preserved
+loop-i-preserved c = search (rules, rounds_more)

@@ -1,12 +1,12 @@
-use borrow.Author.Needs.{needs}
-use Rattle·sha256·proofs.Steps.{schedule-none, schedule-more, schedule-all}
-use Rattle·sha256·proofs.rounds.expand.Needs as need
+use Rattle.std.proofs.Common.{rules}
+use Rattle.sha256.proofs.Steps.{schedule_none, schedule_more, schedule_all}
+use Rattle.sha256.proofs.rounds.expand.Goals as goal
 
-pub loop-n-holds : need.loop-n-holds
-loop-n-holds c = search (needs, schedule-none)
+pub loop-n-init : goal.loop-n-init
+loop-n-init c = search (rules, schedule_none)
 
-pub loop-n-again : need.loop-n-again
-loop-n-again c = search (needs, schedule-more)
+pub loop-n-preserved : goal.loop-n-preserved
+loop-n-preserved c = search (rules, schedule_more)
 
-pub returns : need.returns
-returns c = search (needs, schedule-all)
+pub returns : goal.returns
+returns c = search (rules, schedule_all)

@@ -1,26 +1,24 @@
-use borrow.Author.Needs.{needs}
-use mathlib.Core.Path.{refl, sym, _∙_}
-use native.Mathlib.Omega.{arith}
-use Rattle·sides·proofs.Listed.{listed-here, listed-more, listed-none}
-use Rattle·sides·proofs.Entries.{rows-long, rows-entry, rows-more}
-use Rattle·sides·proofs.look_up.entry.Needs as need
+use Rattle.std.proofs.Common.{sym, refl, ◌∙◌, arith, rules}
+use Rattle.sides.proofs.Listed.{listed_here, listed_more, listed_none}
+use Rattle.sides.proofs.Entries.{rows_long, rows_entry, rows_more}
+use Rattle.sides.proofs.look_up.entry.Goals as goal
 
-pub index-inverses-start : need.index-inverses-start
-index-inverses-start c =
-    let r = rows-long (c .args .sides .now) (c .args .inverses .now) (c .loop-side .side-index) (c .loop-side .start) (c .args .q) (omega arith) (c .if-q-side .taken) (c .loop-side .inv .1) in
+pub bounds-inverses-start : goal.bounds-inverses-start
+bounds-inverses-start c =
+    let r = rows_long c.args.sides.now c.args.inverses.now c.loop-side.side-index c.loop-side.start c.args.q (omega arith) c.if-q-side.true c.loop-side.invariant.1 in
     omega arith
 
-pub returns-then-q-side : need.returns-then-q-side
+pub returns-then-q-side : goal.returns-then-q-side
 returns-then-q-side c =
-    let r = rows-entry (c .args .sides .now) (c .args .inverses .now) (c .loop-side .side-index) (c .loop-side .start) (c .args .q) (omega arith) (c .if-q-side .taken) (c .loop-side .inv .1) in
-    let here = listed-here (c .args .q) (c .args .sides .now) (c .loop-side .side-index) (omega arith) (c .if-q-side .taken) in
-    (sym (c .loop-side .inv .0) ∙ here, rw (c .from .ensures) (r (c .args .a) (omega arith) (omega arith)))
+    let r = rows_entry c.args.sides.now c.args.inverses.now c.loop-side.side-index c.loop-side.start c.args.q (omega arith) c.if-q-side.true c.loop-side.invariant.1 in
+    let here = listed_here c.args.q c.args.sides.now c.loop-side.side-index (omega arith) c.if-q-side.true in
+    (sym c.loop-side.invariant.0 ∙ here, rw c.from.ensures (r c.args.a (omega arith) (omega arith)))
 
-pub loop-side-again : need.loop-side-again
-loop-side-again c =
-    let long = rows-long (c .args .sides .now) (c .args .inverses .now) (c .loop-side .side-index) (c .loop-side .start) _ (omega arith) refl (c .loop-side .inv .1) in
-    let more = rows-more (c .args .sides .now) (c .args .inverses .now) (c .loop-side .side-index) (c .loop-side .start) _ (omega arith) refl (c .loop-side .inv .1) in
-    (sym (listed-more (c .args .q) (c .args .sides .now) (c .loop-side .side-index) (omega arith) (c .if-q-side .left)) ∙ c .loop-side .inv .0, search (needs, more), search (needs, long))
+pub loop-side-preserved : goal.loop-side-preserved
+loop-side-preserved c =
+    let long = rows_long c.args.sides.now c.args.inverses.now c.loop-side.side-index c.loop-side.start _ (omega arith) refl c.loop-side.invariant.1 in
+    let more = rows_more c.args.sides.now c.args.inverses.now c.loop-side.side-index c.loop-side.start _ (omega arith) refl c.loop-side.invariant.1 in
+    (sym (listed_more c.args.q c.args.sides.now c.loop-side.side-index (omega arith) c.if-q-side.false) ∙ c.loop-side.invariant.0, search (rules, more), search (rules, long))
 
-pub returns : need.returns
-returns c = sym (c .loop-side .inv .0) ∙ listed-none (c .args .q) (c .args .sides .now) (c .loop-side .side-index) (omega arith)
+pub returns : goal.returns
+returns c = sym c.loop-side.invariant.0 ∙ listed_none c.args.q c.args.sides.now c.loop-side.side-index (omega arith)

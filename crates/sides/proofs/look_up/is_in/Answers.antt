@@ -1,12 +1,12 @@
-use borrow.Author.Needs.{needs}
-use Rattle·sides·proofs.Listed.{listed-here, listed-more, listed-none}
-use Rattle·sides·proofs.look_up.is_in.Needs as need
+use Rattle.std.proofs.Common.{rules}
+use Rattle.sides.proofs.Listed.{listed_here, listed_more, listed_none}
+use Rattle.sides.proofs.look_up.is_in.Goals as goal
 
-pub returns-then-q-number : need.returns-then-q-number
-returns-then-q-number c = search (needs, listed-here)
+pub returns-then-q-number : goal.returns-then-q-number
+returns-then-q-number c = search (rules, listed_here)
 
-pub loop-number-again : need.loop-number-again
-loop-number-again c = search (needs, listed-more)
+pub loop-number-preserved : goal.loop-number-preserved
+loop-number-preserved c = search (rules, listed_more)
 
-pub returns : need.returns
-returns c = search (needs, listed-none)
+pub returns : goal.returns
+returns c = search (rules, listed_none)

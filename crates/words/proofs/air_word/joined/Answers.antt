@@ -1,6 +1,6 @@
-use borrow.Author.Needs.{needs}
-use Rattle·words·proofs.Items.{joined-items}
-use Rattle·words·proofs.air_word.joined.Needs as need
+use Rattle.std.proofs.Common.{rules}
+use Rattle.words.proofs.Items.{joined_items}
+use Rattle.words.proofs.air_word.joined.Goals as goal
 
-pub returns : need.returns
-returns c = search (needs, joined-items)
+pub returns : goal.returns
+returns c = search (rules, joined_items)

@@ -1,6 +1,6 @@
-use borrow.Author.Needs.{needs}
-use Rattle·words·proofs.Items.{sum-items}
-use Rattle·words·proofs.air_word.sum_of.Needs as need
+use Rattle.std.proofs.Common.{rules}
+use Rattle.words.proofs.Items.{sum_items}
+use Rattle.words.proofs.air_word.sum_of.Goals as goal
 
-pub returns : need.returns
-returns c = search (needs, sum-items)
+pub returns : goal.returns
+returns c = search (rules, sum_items)

@@ -1,9 +1,9 @@
-use Rattle·std.specs.Of.Vec.{vec-items}
-use Rattle·writers·proofs.Putting.{begun-after, none-begun}
-use Rattle·writers·proofs.answers.begin_read.Needs as need
+use Rattle.std.proofs.Common.{vec_items}
+use Rattle.writers.proofs.Putting.{begun_after, none_begun}
+use Rattle.writers.proofs.answers.begin_read.Goals as goal
 
-pub returns-in-Err : need.returns-in-Err
-returns-in-Err c = (c .in-Err .ensures tt .0, none-begun (vec-items (c .args .out .now)) (vec-items (c .put .last .out)) (c .in-Err .ensures tt .1))
+pub returns-in-Err : goal.returns-in-Err
+returns-in-Err c = (c.in-Err.ensures.0, none_begun (vec_items c.args.out.now) (vec_items c.put.new.out) c.in-Err.ensures.1)
 
-pub returns : need.returns
-returns c = begun-after (c .put-numbers .result) (vec-items (c .args .out .now)) (c .args .head .now) _ (vec-items (c .put .last .out)) (vec-items (c .put-numbers .last .out)) (c .in-rest .ensures tt) (c .put-numbers .ensures)
+pub returns : goal.returns
+returns c = begun_after c.put_numbers.result (vec_items c.args.out.now) c.args.head.now _ (vec_items c.put.new.out) (vec_items c.put_numbers.new.out) c.in_default.ensures c.put_numbers.ensures

@@ -1,14 +1,12 @@
-use mathlib.Core.Path.{ap, _∙_}
-use mathlib.Core.List.{List, _++_}
-use Prim.Native.Nat.{ℕ}
-use Rattle·records.specs.Channels.{bytesOfChannel}
-use Rattle·records.specs.Hearing.{bytesOfHeard}
-use Rattle·std.specs.Joined.{joined}
-use Rattle·writers·proofs.Backward.{input-back}
-use Rattle·writers·proofs.heard.heard_input_bytes.Needs as need
+use Rattle.std.proofs.Common.{ℕ, List, ◌++◌, ap, ◌∙◌}
+use Rattle.records.specs.Channels.{bytes_of_channel}
+use Rattle.records.specs.Hearing.{bytes_of_heard}
+use Rattle.std.specs.List.{flat_map}
+use Rattle.writers.proofs.Backward.{input_back}
+use Rattle.writers.proofs.heard.heard_input_bytes.Goals as goal
 
-pub returns : need.returns
+pub returns : goal.returns
 returns c =
-    let after = λ (bs : List ℕ). bs ++ joined bytesOfHeard (c .args .records .now) in
-    let bytes = c .in-Continue-write-all .ensures tt .bytes ∙ ap after (c .in-Continue-write-channel .ensures tt) ∙ ap (λ (bs : List ℕ). after (bs ++ bytesOfChannel (c .args .channel .q) (c .args .channel .d) (c .args .channel .k))) (c .new-out .ensures .items) in
-    record { bytes = bytes; back = input-back (c .args .channel) (c .args .records .now) _ bytes (c .in-Continue-write-all .ensures tt .back) }
+    let after = λ (bs : List ℕ). bs ++ flat_map bytes_of_heard c.args.records.now in
+    let bytes = c.in_ok-write_all.ensures.bytes ∙ ap after c.in_ok-write_channel.ensures ∙ ap (λ (bs : List ℕ). after (bs ++ bytes_of_channel c.args.channel.q c.args.channel.d c.args.channel.k)) c.new-out.ensures.items in
+    record { bytes = bytes; back = input_back c.args.channel c.args.records.now _ bytes c.in_ok-write_all.ensures.back }

@@ -1,36 +1,34 @@
-use mathlib.Core.Path.{ap, _∙_}
-use lib.ListN.{length, take}
-use Rattle·records.specs.Hearing.{bytesOfHeard}
-use Rattle·std.specs.Joined.{joined}
-use Rattle·std.specs.Of.Vec.{vec-items}
-use Rattle·std.proofs.shelf.Elements.{all-more}
-use Rattle·std.proofs.shelf.Lists.{getD-default, take-all}
-use Rattle·writers·specs.Order.{ReadBack}
-use Rattle·writers·proofs.Putting.{put-none, put-more, put-all, put-kept}
-use Rattle·writers·proofs.heard.write_all.Needs as need
+use Rattle.std.proofs.Common.{length, take, vec_items, ap, ◌∙◌}
+use Rattle.records.specs.Hearing.{bytes_of_heard}
+use Rattle.std.specs.List.{flat_map}
+use Rattle.std.proofs.ByRecursion.{All-more}
+use Rattle.std.proofs.lemmas.List.{get_or_default, take_all}
+use Rattle.writers.specs.Order.{ReadBack}
+use Rattle.writers.proofs.Putting.{put_none, put_more, put_all, put_kept}
+use Rattle.writers.proofs.heard.write_all.Goals as goal
 
-pub loop-heard-holds : need.loop-heard-holds
-loop-heard-holds c = (put-none bytesOfHeard (vec-items (c .args .out .now)) (c .args .records .now), tt)
+pub loop-heard-init : goal.loop-heard-init
+loop-heard-init c = (put_none bytes_of_heard (vec_items c.args.out.now) c.args.records.now, tt)
 
-pub loop-heard-again : need.loop-heard-again
-loop-heard-again c = (
-  put-more bytesOfHeard (vec-items (c .args .out .now)) (c .args .records .now) (vec-items (c .loop-heard .out)) (vec-items (c .write-heard .last .out)) (c .loop-heard .heard-index) _ (c .loop-heard-test .taken)
-      (getD-default (c .args .records .now) (c .loop-heard .heard-index) _ _ (c .loop-heard-test .taken)) (c .loop-heard .inv .0) (c .in-rest .ensures tt .bytes),
-  all-more ReadBack (c .args .records .now) (c .loop-heard .heard-index) _ (c .loop-heard-test .taken) (c .loop-heard .inv .1) (c .in-rest .ensures tt .back),
+pub loop-heard-preserved : goal.loop-heard-preserved
+loop-heard-preserved c = (
+  put_more bytes_of_heard (vec_items c.args.out.now) c.args.records.now (vec_items c.loop-heard.out) (vec_items c.write_heard.new.out) c.loop-heard.heard-index _ c.loop-heard-test.true
+      (get_or_default c.args.records.now c.loop-heard.heard-index _ _ c.loop-heard-test.true) c.loop-heard.invariant.0 c.in_default.ensures.bytes,
+  All-more ReadBack c.args.records.now c.loop-heard.heard-index _ c.loop-heard-test.true c.loop-heard.invariant.1 c.in_default.ensures.back,
 )
 
-pub returns-in-Err : need.returns-in-Err
+pub returns-in-Err : goal.returns-in-Err
 returns-in-Err c = record {
   bytes = (
-    c .in-Err .ensures tt .bytes .0,
-    ap (take (length (vec-items (c .args .out .now)))) (c .in-Err .ensures tt .bytes .1)
-        ∙ put-kept (vec-items (c .args .out .now)) (joined bytesOfHeard (take (c .loop-heard .heard-index) (c .args .records .now))) (vec-items (c .loop-heard .out)) (c .loop-heard .inv .0),
+    c.in-Err.ensures.bytes.0,
+    ap (take (length (vec_items c.args.out.now))) c.in-Err.ensures.bytes.1
+        ∙ put_kept (vec_items c.args.out.now) (flat_map bytes_of_heard (take c.loop-heard.heard-index c.args.records.now)) (vec_items c.loop-heard.out) c.loop-heard.invariant.0,
   );
   back = tt;
 }
 
-pub returns : need.returns
+pub returns : goal.returns
 returns c = record {
-  bytes = put-all bytesOfHeard (vec-items (c .args .out .now)) (c .args .records .now) (vec-items (c .loop-heard .out)) (c .loop-heard .heard-index) (c .loop-heard-test .left) (c .loop-heard .inv .0);
-  back = rw (take-all (c .loop-heard .heard-index) (c .args .records .now) (c .loop-heard-test .left)) at (c .loop-heard .inv .1);
+  bytes = put_all bytes_of_heard (vec_items c.args.out.now) c.args.records.now (vec_items c.loop-heard.out) c.loop-heard.heard-index c.loop-heard-test.false c.loop-heard.invariant.0;
+  back = rw (take_all c.loop-heard.heard-index c.args.records.now c.loop-heard-test.false) at c.loop-heard.invariant.1;
 }

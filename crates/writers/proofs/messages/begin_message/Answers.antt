@@ -1,15 +1,11 @@
-use mathlib.Core.Path.{ap, _∙_, sym}
-use mathlib.Core.List.{List, [], _∷_, _++_}
-use Prim.Native.Nat.{ℕ}
-use lib.ListN.{length}
-use Rattle·std.specs.Of.Vec.{vec-items}
-use Rattle·writers·proofs.Putting.{begun-after, none-begun}
-use Rattle·writers·proofs.messages.begin_message.Needs as need
+use Rattle.std.proofs.Common.{ℕ, List, [], ◌∷◌, ◌++◌, length, vec_items, sym, ap, ◌∙◌}
+use Rattle.writers.proofs.Putting.{begun_after, none_begun}
+use Rattle.writers.proofs.messages.begin_message.Goals as goal
 
-pub returns-in-Err : need.returns-in-Err
-returns-in-Err c = (c .in-Err .ensures tt .0, none-begun (vec-items (c .args .out .now)) (vec-items (c .put .last .out)) (c .in-Err .ensures tt .1))
+pub returns-in-Err : goal.returns-in-Err
+returns-in-Err c = (c.in-Err.ensures.0, none_begun (vec_items c.args.out.now) (vec_items c.put.new.out) c.in-Err.ensures.1)
 
-pub returns : need.returns
+pub returns : goal.returns
 returns c =
-    begun-after (c .put-numbers .result) (vec-items (c .args .out .now)) (2 ∷ length (c .args .numbers .now) ∷ []) _ (vec-items (c .put .last .out)) (vec-items (c .put-numbers .last .out))
-    (c .in-rest .ensures tt ∙ ap (λ (bs : List ℕ). vec-items (c .args .out .now) ++ bs) (c .message-head .ensures ∙ ap (λ (n : ℕ). 2 ∷ n ∷ []) (sym (c .pre)))) (c .put-numbers .ensures)
+    begun_after c.put_numbers.result (vec_items c.args.out.now) (2 ∷ length c.args.numbers.now ∷ []) _ (vec_items c.put.new.out) (vec_items c.put_numbers.new.out)
+    (c.in_default.ensures ∙ ap (λ (bs : List ℕ). vec_items c.args.out.now ++ bs) (c.message_head.ensures ∙ ap (λ (n : ℕ). 2 ∷ n ∷ []) (sym c.requires))) c.put_numbers.ensures

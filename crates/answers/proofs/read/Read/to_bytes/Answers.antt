@@ -1,6 +1,6 @@
-use borrow.Author.Needs.{needs}
-use Rattle·answers·proofs.Said.{read-back}
-use Rattle·answers·proofs.read.Read.to_bytes.Needs as need
+use Rattle.std.proofs.Common.{rules}
+use Rattle.answers.proofs.Said.{read_back}
+use Rattle.answers.proofs.read.Read.to_bytes.Goals as goal
 
-pub returns : need.returns
-returns c = record { bytes = search needs; back = read-back (c .args .self) (c .laid-out .result) (search needs) (search needs) (c .laid-out .ensures) }
+pub returns : goal.returns
+returns c = record { bytes = search rules; back = read_back c.args.self c.laid_out.result (search rules) (search rules) c.laid_out.ensures }

@@ -1,22 +1,19 @@
-use borrow.Author.Needs.{needs}
-use mathlib.Core.Path.{_≡_}
-use Prim.Native.Nat.{_≤_}
-use lib.ListN.{length, getD}
-use Rattle·records.proofs.Firsts.{first-none, first-other, first-cut}
-use Rattle·answers·proofs.Said.{told-made}
-use Rattle·answers·proofs.told.Told.first.Needs as need
+use Rattle.std.proofs.Common.{◌≡◌, ◌≤◌, length, get_or, rules}
+use Rattle.records.proofs.Firsts.{first_none, first-other, first_cut}
+use Rattle.answers.proofs.Said.{told_made}
+use Rattle.answers.proofs.told.Told.first.Goals as goal
 
-pub returns-in-rest : need.returns-in-rest
-returns-in-rest c = search (needs, first-none)
+pub returns-in_default : goal.returns-in_default
+returns-in_default c = search (rules, first_none)
 
-pub returns-then-kind-ne-TOLD : need.returns-then-kind-ne-TOLD
-returns-then-kind-ne-TOLD c = search (needs, first-other)
+pub returns-then-kind-ne-TOLD : goal.returns-then-kind-ne-TOLD
+returns-then-kind-ne-TOLD c = search (rules, first-other)
 
-pub returns-in-rest-bytes : need.returns-in-rest-bytes
-returns-in-rest-bytes c = search (needs, first-cut)
+pub returns-in_default-bytes : goal.returns-in_default-bytes
+returns-in_default-bytes c = search (rules, first_cut)
 
-pub returns : need.returns
+pub returns : goal.returns
 returns c =
-    let long : 10 ≤ length (c .args .bytes .now) = search needs in
-    let kind : getD (c .args .bytes .now) 0 0 ≡ 5 = search needs in
-    told-made (c .args .bytes .now) (c .from-be-bytes-frame .result) (c .from-be-bytes-sender .result) (c .from-be-bytes-frame .ensures) (search needs) (c .told-as .result) (c .told-as .ensures) long kind
+    let long : 10 ≤ length c.args.bytes.now = search rules in
+    let kind : get_or c.args.bytes.now 0 0 ≡ 5 = search rules in
+    told_made c.args.bytes.now c.from_be_bytes-frame.result c.from_be_bytes-sender.result c.from_be_bytes-frame.ensures (search rules) c.told_as.result c.told_as.ensures long kind

@@ -1,6 +1,6 @@
-use borrow.Author.Needs.{needs}
-use Rattle·answers·proofs.Said.{told-back}
-use Rattle·answers·proofs.told.Told.to_bytes.Needs as need
+use Rattle.std.proofs.Common.{rules}
+use Rattle.answers.proofs.Said.{told_back}
+use Rattle.answers.proofs.told.Told.to_bytes.Goals as goal
 
-pub returns : need.returns
-returns c = record { bytes = search needs; back = told-back (c .args .self) (c .bytes .result) (search needs) (search needs) (c .bytes .ensures) }
+pub returns : goal.returns
+returns c = record { bytes = search rules; back = told_back c.args.self c.bytes.result (search rules) (search rules) c.bytes.ensures }

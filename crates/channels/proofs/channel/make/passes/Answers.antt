@@ -1,17 +1,16 @@
-use borrow.Author.Needs.{needs}
-use native.Mathlib.Omega.{arith}
-use Rattle·std.proofs.shelf.Ways.{tells}
-use Rattle·channels·specs.Valid.{isValid}
-use Rattle·channels·proofs.Facts.{pow-fits}
-use Rattle·channels·proofs.channel.make.passes.Needs as need
+use Rattle.std.proofs.Common.{arith, rules}
+use Rattle.std.proofs.lemmas.Bool.Decides.{nat_tests}
+use Rattle.channels.specs.Valid.{is_valid}
+use Rattle.channels.proofs.Facts.{pow_fits}
+use Rattle.channels.proofs.channel.make.passes.Goals as goal
 
-pub pow-requires : need.pow-requires
-pow-requires c κs = search (needs, pow-fits)
+pub pow-requires : goal.pow-requires
+pow-requires c = search (rules, pow_fits)
 
-pub returns-then-from : need.returns-then-from
-unfolding isValid
-returns-then-from c = grind (arith, tells)
+pub returns-then-from : goal.returns-then-from
+unfolding is_valid
+returns-then-from c = grind (arith, nat_tests)
 
-pub returns-else-from : need.returns-else-from
-unfolding isValid
-returns-else-from c = grind (arith, tells)
+pub returns-else-from : goal.returns-else-from
+unfolding is_valid
+returns-else-from c = grind (arith, nat_tests)

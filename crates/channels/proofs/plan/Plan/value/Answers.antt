@@ -1,10 +1,9 @@
-use borrow.Author.Needs.{needs}
-use native.Mathlib.Omega.{arith}
-use Rattle·channels·proofs.Digits.{slot-lower, slot-none}
-use Rattle·channels·proofs.plan.Plan.value.Needs as need
+use Rattle.std.proofs.Common.{arith, rules}
+use Rattle.channels.proofs.Digits.{slot_lower, slot_none}
+use Rattle.channels.proofs.plan.Plan.value.Goals as goal
 
-pub loop-i-holds : need.loop-i-holds
-loop-i-holds c = search (needs, slot-none)
+pub loop-i-init : goal.loop-i-init
+loop-i-init c = search (rules, slot_none)
 
-pub loop-i-again : need.loop-i-again
-loop-i-again c = search (needs, slot-lower)
+pub loop-i-preserved : goal.loop-i-preserved
+loop-i-preserved c = search (rules, slot_lower)

@@ -1,15 +1,13 @@
-use borrow.Author.Needs.{needs}
-use mathlib.Core.Path.{refl}
-use native.Mathlib.Omega.{arith}
-use Rattle·std.proofs.shelf.Lists.{refilled-is}
-use Rattle·frames·proofs.frame.Frame.put.Needs as need
+use Rattle.std.proofs.Common.{refl, arith, rules}
+use Rattle.std.proofs.lemmas.List.{with_items_is}
+use Rattle.frames.proofs.frame.Frame.put.Goals as goal
 
-pub ghost-self : need.ghost-self
-ghost-self c =
-    let whole = refilled-is (c .args .self .now .slots) (c .put-in .last .slots) (omega arith) in
-    (search needs, (rw whole (c .put-in .ensures .there), tt))
+pub invariant_of-self : goal.invariant_of-self
+invariant_of-self c =
+    let whole = with_items_is c.args.self.now.slots c.put_in.new.slots (omega arith) in
+    record { whole = search rules; there = rw whole c.put_in.ensures.there }
 
-pub returns : need.returns
+pub returns : goal.returns
 returns c =
-    let whole = refilled-is (c .args .self .now .slots) (c .put-in .last .slots) (omega arith) in
-    record { same = refl; cases = simp whole (simp (c .deref-mut .ensures .value) at (c .put-in .ensures .cases)) }
+    let whole = with_items_is c.args.self.now.slots c.put_in.new.slots (omega arith) in
+    record { same = refl; cases = simp whole (simp c.deref_mut.ensures.value at c.put_in.ensures.cases) }

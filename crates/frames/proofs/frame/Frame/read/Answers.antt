@@ -1,21 +1,19 @@
-use mathlib.Core.Path.{ap, _∙_}
-use native.Mathlib.Omega.{arith}
-use Rattle·channels.proofs.Facts.{channel-good}
-use Rattle·channels.specs.Settings.{settings}
-use Rattle·frames·proofs.Delivery.{answered, delivered}
-use Rattle·polynomials.specs.Heard.{wordsIn}
-use Rattle·speakall.specs.Plan.{planOf}
-use Rattle·std.specs.Of.Vec.{vec-items}
-use Rattle·frames·proofs.frame.Frame.read.Needs as need
+use Rattle.std.proofs.Common.{vec_items, ap, ◌∙◌, arith}
+use Rattle.channels.proofs.Facts.{channel_good}
+use Rattle.channels.specs.Settings.{settings}
+use Rattle.frames.proofs.Delivery.{answered, delivered}
+use Rattle.polynomials.specs.Heard.{words_in}
+use Rattle.speakall.specs.Plan.{plan_of}
+use Rattle.frames.proofs.frame.Frame.read.Goals as goal
 
-pub returns : need.returns
+pub returns : goal.returns
 returns c =
-    let frame = c .args .self .now in
-    let plan = planOf (settings (c .args .self .now .channel)) (c .args .number) in
-    let words = ap wordsIn (c .deref .ensures .value) ∙ c .in-Continue-words .ensures tt in
+    let frame = c.args.self.now in
+    let plan = plan_of (settings c.args.self.now.channel) c.args.number in
+    let words = ap words_in c.deref.ensures.value ∙ c.in_ok-words.ensures in
     record {
-      made = answered (settings (frame .channel)) (vec-items (frame .slots)) plan (wordsIn (c .deref .result .now)) (c .read .result) (c .args .message .now) (c .read .last .message) words (omega arith)
-          (c .read .ensures);
-      delivered = delivered (settings (frame .channel)) (vec-items (frame .slots)) plan (wordsIn (c .deref .result .now)) (c .read .result) (c .args .message .now) (c .read .last .message) words (omega arith)
-          (c .read .ensures) (channel-good (frame .channel));
+      made = answered (settings frame.channel) (vec_items frame.slots) plan (words_in c.deref.result.now) c.read.result c.args.message.now c.read.new.message words (omega arith)
+          c.read.ensures;
+      delivered = delivered (settings frame.channel) (vec_items frame.slots) plan (words_in c.deref.result.now) c.read.result c.args.message.now c.read.new.message words (omega arith)
+          c.read.ensures (channel_good frame.channel);
     }

@@ -1,17 +1,15 @@
-use borrow.Author.Needs.{needs}
-use mathlib.Core.Path.{refl, ap, _∙_}
-use lib.ListN.{replicate}
-use Rattle·channels.specs.Settings.{settings}
-use Rattle·frames·specs.declared.slot.Slot.the-variants.{Silence}
-use Rattle·frames·proofs.Hearing.{there-silent, silent-hears}
-use Rattle·frames·proofs.frame.Frame.silent.Needs as need
+use Rattle.std.proofs.Common.{replicate, refl, ap, ◌∙◌, rules}
+use Rattle.channels.specs.Settings.{settings}
+use Rattle.frames.specs.declared.slot.Slot.TheVariants.{Silence}
+use Rattle.frames.proofs.Hearing.{there_silent, silent_hears}
+use Rattle.frames.proofs.frame.Frame.silent.Goals as goal
 
-pub ghost-result : need.ghost-result
-ghost-result c =
-    let items = c .in-Continue-slots .ensures tt .exact (λ y e. e) in
-    (search needs, (rw items (there-silent _ _), tt))
+pub invariant_of-result : goal.invariant_of-result
+invariant_of-result c =
+    let items = c.in_ok-slots.ensures.items_if_clones_equal (λ y e. e) in
+    record { whole = search rules; there = rw items (there_silent _ _) }
 
-pub returns : need.returns
+pub returns : goal.returns
 returns c =
-    let items = c .in-Continue-slots .ensures tt .exact (λ y e. e) ∙ ap (λ n. replicate n Silence) (c .slots .ensures) in
-    (refl, rw items (silent-hears (settings (c .args .channel))), items)
+    let items = c.in_ok-slots.ensures.items_if_clones_equal (λ y e. e) ∙ ap (λ n. replicate n Silence) c.slots.ensures in
+    (refl, rw items (silent_hears (settings c.args.channel)), items)

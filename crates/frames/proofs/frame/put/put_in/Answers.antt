@@ -1,14 +1,13 @@
-use borrow.Author.Needs.{needs}
-use native.Mathlib.Omega.{arith}
-use Rattle·frames·proofs.Places.{place-lt}
-use Rattle·frames·proofs.There.{there-set}
-use Rattle·frames·proofs.frame.put.put_in.Needs as need
+use Rattle.std.proofs.Common.{arith, rules}
+use Rattle.frames.proofs.Places.{place_lt}
+use Rattle.frames.proofs.There.{there_set}
+use Rattle.frames.proofs.frame.put.put_in.Goals as goal
 
-pub index-slots-part : need.index-slots-part
-index-slots-part c =
-    let same = c .parts-q .ensures in
-    let below = place-lt (c .args .channel .q) (c .args .part) (c .args .y) (search needs) (search needs) in
+pub bounds-slots-part : goal.bounds-slots-part
+bounds-slots-part c =
+    let same = c.parts-q.ensures in
+    let below = place_lt c.args.channel.q c.args.part c.args.y (search rules) (search rules) in
     rw same (omega arith)
 
-pub returns : need.returns
-returns c = record { there = search (needs, there-set); cases = (search needs, search needs) }
+pub returns : goal.returns
+returns c = record { there = search (rules, there_set); cases = (search rules, search rules) }

@@ -1,13 +1,12 @@
-use borrow.Author.Needs.{needs}
-use native.Mathlib.Omega.{arith}
-use Rattle·frames·proofs.Own.{gathered-none, gathered-more, gathered-all}
-use Rattle·frames·proofs.frame.words.gathered.Needs as need
+use Rattle.std.proofs.Common.{arith, rules}
+use Rattle.frames.proofs.Own.{gathered_none, gathered_more, gathered_all}
+use Rattle.frames.proofs.frame.words.gathered.Goals as goal
 
-pub loop-part-holds : need.loop-part-holds
-loop-part-holds c = search (needs, gathered-none)
+pub loop-part-init : goal.loop-part-init
+loop-part-init c = search (rules, gathered_none)
 
-pub loop-part-again : need.loop-part-again
-loop-part-again c = search (needs, gathered-more)
+pub loop-part-preserved : goal.loop-part-preserved
+loop-part-preserved c = search (rules, gathered_more)
 
-pub returns : need.returns
-returns c = search (needs, gathered-all)
+pub returns : goal.returns
+returns c = search (rules, gathered_all)

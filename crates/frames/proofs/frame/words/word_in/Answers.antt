@@ -1,13 +1,11 @@
-use mathlib.Core.Path.{_∙_, ap, ap₂}
-use native.Mathlib.Omega.{arith}
-use Prim.Native.Nat.{ℕ}
-use Rattle·channels.specs.Settings.{settings}
-use Rattle·frames·proofs.Own.{own-in}
-use Rattle·speakall.specs.Plan.{Plan, slotAt}
-use Rattle·frames·proofs.frame.words.word_in.Needs as need
+use Rattle.std.proofs.Common.{ℕ, ap, ◌∙◌, ap₂, arith}
+use Rattle.channels.specs.Settings.{settings}
+use Rattle.frames.proofs.Own.{own_in}
+use Rattle.speakall.specs.Plan.{Plan, slot_at}
+use Rattle.frames.proofs.frame.words.word_in.Goals as goal
 
-pub returns : need.returns
+pub returns : goal.returns
 returns c =
-    own-in (settings (c .args .channel)) (c .args .number) (c .args .part) (c .in-Continue-y .y) (c .parts .result) (c .args .slots .now) (c .slot-at .result) (c .word-of .result) (omega arith) (c .pre .planned .here)
-    (c .pre .there) (c .parts .ensures)
-    (c .in-Continue-y .ensures tt .2 ∙ ap₂ (λ (q : ℕ) (f : Plan). slotAt q f (c .args .part)) (c .pre .planned .side) (c .pre .planned .plan)) (c .slot-at .ensures) (c .word-of .ensures)
+    own_in (settings c.args.channel) c.args.number c.args.part c.in_ok-y.y c.parts.result c.args.slots.now c.slot_at.result c.word_of.result (omega arith) c.requires.planned.here
+    c.requires.there c.parts.ensures
+    (c.in_ok-y.ensures.2 ∙ ap₂ (λ (q : ℕ) (f : Plan). slot_at q f c.args.part) c.requires.planned.side c.requires.planned.plan) c.slot_at.ensures c.word_of.ensures

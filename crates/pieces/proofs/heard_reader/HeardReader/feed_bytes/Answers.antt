@@ -1,20 +1,18 @@
-use mathlib.Core.Path.{_∙_, ap, refl}
-use lib.ListN.{getD, take}
-use Rattle·std.specs.Of.Vec.{vec-items}
-use Rattle·std.specs.Vec.{listOf}
-use Rattle·pieces·proofs.Feeding.{fed-none, fed-more, fed-all, fed-kept}
-use Rattle·pieces·proofs.heard_reader.HeardReader.feed_bytes.Needs as need
+use Rattle.std.proofs.Common.{get_or, take, vec_items, refl, ap, ◌∙◌}
+use Rattle.std.specs.Option.{option_to_list}
+use Rattle.pieces.proofs.Feeding.{fed_none, fed_more, fed_all, fed_kept}
+use Rattle.pieces.proofs.heard_reader.HeardReader.feed_bytes.Goals as goal
 
-pub loop-b-holds : need.loop-b-holds
-loop-b-holds c = fed-none (c .args .self) (c .args .piece .now) (vec-items (c .args .records .now))
+pub loop-b-init : goal.loop-b-init
+loop-b-init c = fed_none c.args.self c.args.piece.now (vec_items c.args.records.now)
 
-pub loop-b-again : need.loop-b-again
-loop-b-again c =
-    fed-more (c .args .self) (c .loop-b .reader) (c .step-step .result .reader) (c .args .piece .now) (vec-items (c .args .records .now)) (vec-items (c .loop-b .records)) (vec-items (c .keep .last .records))
-    (listOf (c .step-step .result .heard)) (c .loop-b .b-index) (getD (c .args .piece .now) (c .loop-b .b-index) 0) (c .loop-b-test .taken) refl (c .loop-b .inv) (c .step-step .ensures) (c .in-rest .ensures tt)
+pub loop-b-preserved : goal.loop-b-preserved
+loop-b-preserved c =
+    fed_more c.args.self c.loop-b.reader c.step-step.result.reader c.args.piece.now (vec_items c.args.records.now) (vec_items c.loop-b.records) (vec_items c.keep.new.records)
+    (option_to_list c.step-step.result.heard) c.loop-b.b-index (get_or c.args.piece.now c.loop-b.b-index 0) c.loop-b-test.true refl c.loop-b.invariant c.step-step.ensures c.in_default.ensures
 
-pub returns-in-Err : need.returns-in-Err
-returns-in-Err c = (c .in-Err .ensures tt .0, ap (take _) (c .in-Err .ensures tt .1) ∙ fed-kept (c .args .self) (c .loop-b .reader) (take (c .loop-b .b-index) (c .args .piece .now)) (vec-items (c .args .records .now)) (vec-items (c .loop-b .records)) _ (c .args .records .now .ok .0) (c .loop-b .inv))
+pub returns-in-Err : goal.returns-in-Err
+returns-in-Err c = (c.in-Err.ensures.0, ap (take _) c.in-Err.ensures.1 ∙ fed_kept c.args.self c.loop-b.reader (take c.loop-b.b-index c.args.piece.now) (vec_items c.args.records.now) (vec_items c.loop-b.records) _ c.args.records.now.ok.0 c.loop-b.invariant)
 
-pub returns : need.returns
-returns c = fed-all (c .args .self) (c .loop-b .reader) (c .args .piece .now) (vec-items (c .args .records .now)) (vec-items (c .loop-b .records)) (c .loop-b .b-index) (c .loop-b-test .left) (c .loop-b .inv)
+pub returns : goal.returns
+returns c = fed_all c.args.self c.loop-b.reader c.args.piece.now (vec_items c.args.records.now) (vec_items c.loop-b.records) c.loop-b.b-index c.loop-b-test.false c.loop-b.invariant

@@ -1,6 +1,6 @@
-use borrow.Author.Needs.{needs}
-use Rattle·pieces·proofs.Stepping.{channel-waits}
-use Rattle·pieces·proofs.heard_reader.HeardReader.new.Needs as need
+use Rattle.std.proofs.Common.{rules}
+use Rattle.pieces.proofs.Stepping.{channel-waits}
+use Rattle.pieces.proofs.heard_reader.HeardReader.new.Goals as goal
 
-pub ghost-result : need.ghost-result
-ghost-result c = (search needs, (channel-waits, tt))
+pub invariant_of-result : goal.invariant_of-result
+invariant_of-result c = record { few = search rules; waits = channel-waits }

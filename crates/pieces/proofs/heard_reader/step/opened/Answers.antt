@@ -1,30 +1,26 @@
-use borrow.Author.Needs.{needs}
-use mathlib.Core.Path.{_≡_, ap, sym}
-use native.Mathlib.Omega.{arith}
-use Prim.Native.Nat.{_+_}
-use lib.ListN.{length, getD, take}
-use Rattle·std.proofs.shelf.Lists.{length-take-le, take-more}
-use Rattle·reading.proofs.ChannelLaws.{channel-short}
-use Rattle·pieces·specs.Waiting.{isShort}
-use Rattle·pieces·proofs.Stepping.{heard-waits, opened-whole, opened-wrong}
-use Rattle·pieces·proofs.heard_reader.step.opened.Needs as need
+use Rattle.std.proofs.Common.{◌≡◌, ◌+◌, length, get_or, take, sym, ap, arith, rules}
+use Rattle.std.proofs.lemmas.List.{length-take-le, take_more}
+use Rattle.reading.proofs.ChannelLaws.{channel_short}
+use Rattle.pieces.specs.Waiting.{is_short}
+use Rattle.pieces.proofs.Stepping.{heard-waits, opened-whole, opened_wrong}
+use Rattle.pieces.proofs.heard_reader.step.opened.Goals as goal
 
-pub ghost-result : need.ghost-result
-ghost-result c = (search needs, (heard-waits _ _, tt))
+pub invariant_of-result : goal.invariant_of-result
+invariant_of-result c = record { few = search rules; waits = heard-waits _ _ }
 
-pub ghost-result-in-Short : need.ghost-result-in-Short
-ghost-result-in-Short c =
-    let twenty : length (c .args .held) ≡ 20 = search needs in
-    let short = rw (c .from .ensures) at (sym (c .in-Short .ensures tt)) in
-    let few = channel-short (take (c .args .before + 1) (c .args .held)) short in
-    let long = length-take-le (c .args .before + 1) (c .args .held) (omega (arith, c .pre .few)) in
-    (omega arith, (ap isShort short, tt))
+pub invariant_of-result-in-Short : goal.invariant_of-result-in-Short
+invariant_of-result-in-Short c =
+    let twenty : length c.args.held ≡ 20 = search rules in
+    let short = rw c.from.ensures at (sym c.in-Short.ensures) in
+    let few = channel_short (take (c.args.before + 1) c.args.held) short in
+    let long = length-take-le (c.args.before + 1) c.args.held (omega (arith, c.requires.few)) in
+    record { few = omega arith; waits = ap is_short short }
 
-pub returns-in-Whole : need.returns-in-Whole
+pub returns-in-Whole : goal.returns-in-Whole
 returns-in-Whole c = λ more.
-    let twenty : length (c .args .held) ≡ 20 = search needs in
-    opened-whole (take (c .args .before) (c .args .held)) (take (c .args .before + 1) (c .args .held)) more (getD (c .args .held) (c .args .before) 0) (c .in-Whole .channel) (c .pre .waited)
-    (take-more (c .args .held) (c .args .before) 0 (omega (arith, c .pre .few))) (rw (c .from .ensures) at (sym (c .in-Whole .ensures tt)))
+    let twenty : length c.args.held ≡ 20 = search rules in
+    opened-whole (take c.args.before c.args.held) (take (c.args.before + 1) c.args.held) more (get_or c.args.held c.args.before 0) c.in-Whole.channel c.requires.waited
+    (take_more c.args.held c.args.before 0 (omega (arith, c.requires.few))) (rw c.from.ensures at (sym c.in-Whole.ensures))
 
-pub returns-in-Wrong : need.returns-in-Wrong
-returns-in-Wrong c = λ more. opened-wrong (take (c .args .before + 1) (c .args .held)) more (c .in-Wrong .fault) (rw (c .from .ensures) at (sym (c .in-Wrong .ensures tt)))
+pub returns-in-Wrong : goal.returns-in-Wrong
+returns-in-Wrong c = λ more. opened_wrong (take (c.args.before + 1) c.args.held) more c.in-Wrong.fault (rw c.from.ensures at (sym c.in-Wrong.ensures))

@@ -1,6 +1,6 @@
-use borrow.Author.Needs.{needs}
-use Rattle·std.proofs.shelf.Lists.{take-set, take-more-set}
-use Rattle·pieces·proofs.heard_reader.step.with.Needs as need
+use Rattle.std.proofs.Common.{rules}
+use Rattle.std.proofs.lemmas.List.{take-set, take_more_set}
+use Rattle.pieces.proofs.heard_reader.step.with.Goals as goal
 
-pub returns : need.returns
-returns c = record { before = search (needs, take-set); more = search (needs, take-more-set) }
+pub returns : goal.returns
+returns c = record { before = search (rules, take-set); more = search (rules, take_more_set) }

@@ -1,11 +1,11 @@
-use borrow.Author.Needs.{needs}
-use Rattle·records·specs.Hearing.{bytesIn}
-use Rattle·records·proofs.Back.{heard-back}
-use Rattle·records·proofs.heard.Heard.to_bytes.Needs as need
+use Rattle.std.proofs.Common.{rules}
+use Rattle.records.specs.Hearing.{bytes_in}
+use Rattle.records.proofs.Back.{heard_back}
+use Rattle.records.proofs.heard.Heard.to_bytes.Goals as goal
 
-pub returns : need.returns
+pub returns : goal.returns
 returns c = record {
-  bytes = c .laid-out .ensures .bytes;
-  size = c .laid-out .ensures .size;
-  back = heard-back (c .args .self) (bytesIn (c .laid-out .result)) (search needs) (c .laid-out .ensures .bytes) (c .laid-out .ensures .size);
+  bytes = c.laid_out.ensures.bytes;
+  size = c.laid_out.ensures.size;
+  back = heard_back c.args.self (bytes_in c.laid_out.result) (search rules) c.laid_out.ensures.bytes c.laid_out.ensures.size;
 }

@@ -1,8 +1,0 @@
-use Rattle·channels.specs.Settings.{settings}
-use Rattle·speakall.specs.Plan.{planOf}
-use Rattle·std.specs.Of.Vec.{vec-items}
-use Rattle·frames·proofs.Own.{Gathered}
-use Rattle·frames·proofs.frame.words.gathered.Given as given
-
-abbrev pub Inv-loop-part : given.InvT-loop-part
-Inv-loop-part l = Gathered (settings (l .channel)) (l .slots) (planOf (settings (l .channel)) (l .number)) (l .part) (vec-items (l .words))

@@ -1,0 +1,6 @@
+use Rattle.std.proofs.Common.{vec_items, string_bytes}
+use Rattle.ice_grid.proofs.Signs.{Signed}
+use Rattle.ice_grid.proofs.grid.put_signs.Given as goal
+
+abbrev pub invariant-loop-part : goal.invariant-loop-part
+invariant-loop-part l = Signed l.frame.channel.q (vec_items l.frame.slots) l.numbers l.y (string_bytes l.initial.text) (string_bytes l.text) l.part

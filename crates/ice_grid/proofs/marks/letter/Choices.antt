@@ -1,8 +1,0 @@
-use mathlib.Core.Path.{_≡_}
-use lib.ListN.{drop}
-use Rattle·ice_grid·specs.Marks.{letterOf, letters}
-use Rattle·ice_grid·proofs.marks.letter.Given as given
-
--- what is left decides
-abbrev pub Inv-loop-i : given.InvT-loop-i
-Inv-loop-i l = letterOf (l .number) (drop (l .i) (l .numbers)) (drop (l .i) letters) ≡ letterOf (l .number) (l .numbers) letters

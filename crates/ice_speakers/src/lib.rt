@@ -31,7 +31,7 @@ mod tests {
         let message = None;
         let spoken = vec![in heap; Spoken { number: 7, message }]?;
         let heard = hear(heap, channel, &spoken)?;
-        assert!(rt; heard.numbers.as_slice() == [7]);
+        assert!(rt; heard.numbers.as_slice() == [7].as_slice());
         let message = Some([1, 2, 4_294_967_299].to_vec(heap)?);
         let spoken = vec![in heap; Spoken { number: 7, message }]?;
         assert!(rt; matches!(hear(heap, channel, &spoken), Err(Fault::Message)));

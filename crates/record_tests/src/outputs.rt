@@ -25,11 +25,13 @@ fn inputs(rt: HostRuntime) -> Result<(), Fail> {
     let bytes = heard_input_bytes(heap, Channel::new(5, 2, 2)?, &records)?;
     assert!(rt;
         bytes.as_slice()
-            == b"\x01\x05\x02\x02\x03\x00\x00\x01\x02\x03\x04\x02\x03\x00\x00\x01\x03\x00\x01\x01abcdefghijkl"
+            == b"\x01\x05\x02\x02\x03\x00\x00\x01\x02\x03\x04\x02\x03\x00\x00\x01\x03\x00\x01\x01abcdefghijkl".as_slice()
     );
     let mut out = Vec::new(heap);
     write_message(&mut out, &[10, 258, 1073741823])?;
-    assert!(rt; out.as_slice() == b"\x02\x03\x00\x00\x00\x0a\x00\x00\x01\x02\x3f\xff\xff\xff");
+    assert!(rt;
+        out.as_slice() == b"\x02\x03\x00\x00\x00\x0a\x00\x00\x01\x02\x3f\xff\xff\xff".as_slice()
+    );
     let many = vec![in heap; 0u32; 256]?;
     assert_eq!(rt; write_message(&mut out, &many), Err(Fault::Message));
     assert_eq!(rt; out.len(), 14);
@@ -50,7 +52,7 @@ fn answers(rt: HostRuntime) -> Result<(), Fail> {
     write_read(&mut out, read, &[7, 8])?;
     assert!(rt;
         out.as_slice()
-            == b"\x04\x00\x00\x00\x01\x01\x02\x03\x1d\x02\x02\x00\x00\x00\x07\x00\x00\x00\x08"
+            == b"\x04\x00\x00\x00\x01\x01\x02\x03\x1d\x02\x02\x00\x00\x00\x07\x00\x00\x00\x08".as_slice()
     );
     assert_eq!(rt; write_read(&mut out, read, &[7]), Err(Fault::Message));
     let far = Telling::Doubtful {
@@ -76,6 +78,6 @@ fn answers(rt: HostRuntime) -> Result<(), Fail> {
             telling: Telling::Crowded,
         },
     )?;
-    assert!(rt; out.as_slice() == b"\x05\x00\x00\x00\x02\x00\x00\x00\x08\x00");
+    assert!(rt; out.as_slice() == b"\x05\x00\x00\x00\x02\x00\x00\x00\x08\x00".as_slice());
     Ok(())
 }

@@ -1,5 +1,5 @@
 -- The records of a frame stand in their order, and their parts and slots are there, so that they are read back as they were written.
--- records_ordered, records_inside, read-back. Assumes nothing.
+-- records_ordered, records_inside, read_back. Assumes nothing.
 use Rattle.std.proofs.Common.{◌≡◌, ℕ, zero, suc, ◌+◌, ◌*◌, ◌/◌, ◌%◌, ◌<◌, ◌≤◌, Bool, true, false, cond, ◌&&◌, eqb, ltb, List, [], ◌∷◌, ◌++◌, get_or, Some, None, vec_items, sym, refl, ap, ◌∙◌, subst, ⊎_elim, arith}
 use lib.Arith.{digits_div, digits_mod}
 use Rattle.std.proofs.lemmas.Bool.{cases_eq, lt-ltb}

@@ -1,5 +1,5 @@
 -- Records of what a listener makes of a frame: what stands first, and that it is read back.
--- read_made, told_made, read-back, told_back. Assumes nothing.
+-- read_made, told_made, three_back, read_back, told_back. Assumes nothing.
 use Rattle.std.proofs.Common.{◌≡◌, ℕ, ◌+◌, ◌*◌, ◌/◌, ◌%◌, ◌^◌, ◌<◌, ◌≤◌, List, ◌++◌, length, get_or, sym, refl, ◌∙◌, arith}
 use Rattle.std.proofs.lemmas.List.{length-append}
 use Rattle.records.specs.Numbers.{four_at, three_at}

@@ -1,5 +1,5 @@
 -- The worked cases as rows of one table, and what it is for a row to hold, by the definitions that the contracts of the code cite.
--- Row, channel, words_heard, Holds, five, five-long, three, table, Cases. Assumes nothing.
+-- Row, meeting, said, Holds, channel, five, three, table, Cases. Assumes nothing.
 use Rattle.std.specs.Prelude.{◌≡◌, ℕ, zero, suc, ◌^◌, cond, List, [], ◌∷◌, ◌++◌, map, ◌==◌}
 use Rattle.std.specs.List.{AllByRecursion}
 use Rattle.frames.specs.Slots.{speaker}

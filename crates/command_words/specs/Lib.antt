@@ -1,4 +1,4 @@
--- What the contracts of what the programs share cite.
+-- What the contracts of what the programs can share cite.
 pub mod Numbers
 pub mod Wrong
 pub mod Lines

@@ -1,4 +1,4 @@
-// What the programs share: numbers among the words of a command line, the line that tells which word is wrong,
+// What the programs can share: numbers among the words of a command line, the line that tells which word is wrong,
 // and the line of a channel.
 #![tactic(auto)]
 

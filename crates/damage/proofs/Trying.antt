@@ -1,5 +1,5 @@
 -- Trying a polynomial: it is the only one through the words kept, so if it is not near enough, no message on them is (tried).
--- And what is kept: the words left, one more at each turn (kept_more, kept_full, kept-end), sound (kept-sound), and a message on all words left lies on them (kept-on).
+-- And what is kept: the words left, one more at each turn (kept_more, kept_full, kept-end), sound and on a message where all words left are (tried-left).
 use Rattle.std.proofs.Common.{◌≡◌, ℕ, zero, suc, ◌+◌, ◌-◌, ◌*◌, ◌/◌, ◌<◌, ◌≤◌, min, Bool, true, false, cond, ◌&&◌, ◌||◌, T, eqb, leb, List, [], ◌∷◌, ◌++◌, length, get_or, take, drop, set, Some, None, Option, sym, refl, ap, ◌∙◌, subst, ⊎_elim, mul-le-mul_right, mod-lt, le-div_iff_mul-le, div-mul-le_self, arith, lt→ltb}
 use native.Mathlib.Nat.{mod-add-div}
 use mir.Facts.{and_yes, yes_and}

@@ -1,3 +1,3 @@
--- What the code of messages promises, over the statements.
+-- What the code of damaged reading promises, over the statements.
 pub mod Made
 pub mod Seeking

@@ -3,9 +3,9 @@
 // So sets of words are left out. Not of single words, which are C(w, e) sets, but of blocks of (w - s) / e words: any e words lie in some e blocks,
 // and without any e blocks s words or more are left. These are C(n, e) sets for n blocks: 70 instead of 23,751 for s = 11 and w = 29.
 ghost use Rattle.std.specs.Prelude.{◌≡◌, ◌+◌, ◌*◌, ◌^◌, ◌<◌, ◌≤◌, T, length, take};
-ghost use Rattle.damage.specs.Seeking.{NoneOn, Sought, Tried, near as nearOf};
+ghost use Rattle.damage.specs.Seeking.{NoneOn, Sought, Tried, near as near_of};
 ghost use Rattle.polynomials.specs.Heard.{words_in};
-ghost use Rattle.readings.specs.Blocks.{Fails, end_block, first_block, is_among, left as leftIn};
+ghost use Rattle.readings.specs.Blocks.{Fails, end_block, first_block, is_among, left as left_in};
 ghost use Rattle.readings.specs.Reads.{spare as spare_of};
 ghost use Rattle.speakall.specs.Code.{sound_in};
 
@@ -23,7 +23,7 @@ pub fn spare(words: usize, size: usize) -> usize
 
 // How many words are off these numbers, if they are a message's and at most `spare` are.
 fn near(message: &[u32], words: &[PartWord], spare: usize) -> Option<usize>
-    ensures { result ≡ nearOf spare words.now message.now }
+    ensures { result ≡ near_of spare words.now message.now }
 {
     if !is_message(message) {
         return None;
@@ -62,8 +62,8 @@ fn is_out(block: usize, out: &[usize]) -> bool
 // Copies the first words that are in none of the blocks left out, as many as there is room for.
 fn keep(words: &[PartWord], block: usize, out: &[usize], room: &mut [PartWord])
     requires block { 0 < block }
-    requires enough { length room.old ≤ length (leftIn block out.now 0 words.now) }
-    ensures { room.new ≡ take (length room.old) (leftIn block out.now 0 words.now) }
+    requires enough { length room.old ≤ length (left_in block out.now 0 words.now) }
+    ensures { room.new ≡ take (length room.old) (left_in block out.now 0 words.now) }
 {
     let mut count = 0;
     for i in 0..words.len() {
@@ -89,7 +89,7 @@ fn without(
     requires block { 0 < block }
     requires sound { T (sound_in 251 (words_in words.now)) }
     requires few { length message.old ≤ 251 }
-    requires enough { length message.old ≤ length (leftIn block out.now 0 words.now) }
+    requires enough { length message.old ≤ length (left_in block out.now 0 words.now) }
     ensures { Tried (length message.old) spare words.now (Fails (length message.old) spare (words_in words.now) block out.now) result message.new }
 {
     let size = message.len();

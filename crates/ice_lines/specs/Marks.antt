@@ -1,5 +1,5 @@
 -- The signs of the grid, and its rows.
--- letters, letter_of, mark_of; blanks_of, marks_to, row_of; digit_of, headerTo. Assumes nothing.
+-- letters, letter_of, mark_of; blanks_of, marks_to, row_of; digit_of, digits_to. Assumes nothing.
 use Rattle.std.specs.Prelude.{ℕ, zero, suc, ◌+◌, ◌/◌, ◌%◌, cond, ◌&&◌, ◌||◌, List, [], ◌∷◌, ◌++◌, codes, decimal, ◌==◌, nat_lt}
 use Rattle.std.proofs.Math.Utf8.{encode}
 use Rattle.frames.specs.declared.slot.Slot.{Slot}

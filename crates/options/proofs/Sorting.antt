@@ -1,5 +1,5 @@
 -- The words are looked at one after the other: what is left decides.
--- given_here, given_more, given_none; kept-one, kept_none; without-none, without_more, without_all. Assumes nothing.
+-- given_here, given_more, given_none; kept-one, kept_none; without_more, without_all. Assumes nothing.
 use Rattle.std.proofs.Common.{◌≡◌, ℕ, ◌+◌, ◌<◌, ◌≤◌, Bool, true, false, cond, ◌||◌, List, [], ◌∷◌, ◌++◌, map, length, get_or, drop, string_bytes, String, sym, refl, ap, ◌∙◌, append_assoc, append-nil, arith}
 use Rattle.std.specs.Str.{bytes_eq}
 use Rattle.std.proofs.lemmas.Slice.Eq.{bytes_eq-Decides}

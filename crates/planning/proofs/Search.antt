@@ -1,6 +1,6 @@
 -- The search through the sides and digits, in order: what is passed does not serve, and what is left comes later.
--- NoneLower with lower_none, lower_more, lower_all, lower-found: the digits of one side.
--- NoneNarrower with narrower_none, narrower_more, narrower_all, narrower-found: the sides.
+-- NoneLower with lower_none, lower_more, lower_all, lower_found: the digits of one side.
+-- NoneNarrower with narrower_none, narrower_more, narrower_all, narrower_found: the sides.
 -- list_none, list_passed, list_pushed, list_next_side, list_all: the list of all that serve. Assumes nothing.
 use Rattle.std.proofs.Common.{◌≡◌, ℕ, ◌+◌, ◌<◌, ◌≤◌, List, [], ◌∷◌, ◌++◌, length, get_or, sym, refl, ap, ◌∙◌, subst, inl, inr, ⊎_elim, arith}
 use Rattle.std.proofs.ByRecursion.{All-push, All-weaker, has_append_left, has_push}

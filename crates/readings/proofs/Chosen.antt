@@ -1,4 +1,4 @@
--- Any e blocks that some words off a message lie in are among the sets of e blocks, highest first, that the search goes through (found-out).
+-- Any e blocks that some words off a message lie in are among the sets of e blocks, highest first, that the search goes through (none_near).
 -- Idea: from the highest block down, a block is chosen if it has a word off, or if all blocks left are needed to make e.
 use Rattle.std.proofs.Common.{◌≡◌, ℕ, zero, suc, ◌*◌, ◌<◌, ◌≤◌, false, eqb, List, [], ◌∷◌, length, take, ⊎_elim, arith}
 use Rattle.std.proofs.lemmas.Bool.{cases_eq, cases_lt, eqb-false, or_parts}

@@ -1,4 +1,4 @@
--- The slots, words and answers by definition are a term of the system's record (the-code), for every channel.
+-- The slots, words and answers by definition are a term of the system's record (coded), for every channel.
 -- Idea: what is read was tested, whatever the words; and that p is prime lets parts be as large as the record allows.
 use Rattle.std.proofs.Common.{◌≡◌, ℕ, ◌+◌, ◌*◌, ◌<◌, ◌≤◌, Bool, not, ◌&&◌, T, ltb, leb, List, [], ◌∷◌, length, sym, refl, ap, ◌∙◌, subst, ⊎_elim, arith}
 use mathlib.Core.List.{Memᴰ}

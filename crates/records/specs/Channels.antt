@@ -1,5 +1,5 @@
 -- The record of a channel.
--- bytes_of_channel, Numbers, channel_in, IsChannel. Assumes nothing.
+-- bytes_of_channel, channel_in, settled. Assumes nothing.
 use Rattle.std.specs.Prelude.{ℕ, cond, List, [], ◌∷◌, slice_index}
 use Rattle.channels.specs.declared.channel.Channel.{Channel}
 use Rattle.channels.specs.declared.fault.Fault.TheVariants.{Channel as FaultChannel}

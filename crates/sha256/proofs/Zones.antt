@@ -1,5 +1,5 @@
 -- A padded message by zones: its own bytes, the byte 128, zeros, the length; and its words and blocks, one after the other.
--- padding-first, padding-zero, padding_field, padded-first, padded_second, padded_rest, words_none, words_more, words-all, blocks_none, blocks_more, digest_blocks. Assumes nothing.
+-- padding-first, padding-zero, padding_field, padded-first, padded_second, padded_rest, words_none, words_more, blocks_none, blocks_more, digest_blocks. Assumes nothing.
 use Rattle.std.proofs.Common.{◌≡◌, ℕ, suc, ◌+◌, ◌-◌, ◌*◌, ◌/◌, ◌<◌, ◌≤◌, List, [], ◌∷◌, ◌++◌, length, get_or, take, set, replicate, sym, refl, ap, ◌∙◌, add-one, arith}
 use Rattle.std.proofs.lemmas.List.{get_or_append_left, get_or-append_right, get_or-replicate, length-append, length-replicate, take_more_set}
 use Rattle.sha256.specs.Constants.{initial}

@@ -1,5 +1,5 @@
 -- Polynomials modulo m as the lists of their coefficients, with slot_at m f x as the value of f at x; words are such values modulo p (word_at_is).
--- The key lemma, agree-equal: two polynomials of n coefficients below m that agree at n points or more, each two of whose differences have inverses modulo m (Gaps), are equal.
+-- The key lemma, agree_equal: two polynomials of n coefficients below m that agree at n points or more, each two of whose differences have inverses modulo m (Gaps), are equal.
 -- Also the remainder after division by a point (divided), values below m (slot_at_lt), and that different points below n do, if 1 to n - 1 have inverses (Spread, gaps_from_units).
 -- Idea: recursion on the points. The quotient of f by a point a is the list of the values at a of f's tails (`tails`);
 -- the quotients agree at the other points, and f can be told from its quotient and its value at a.

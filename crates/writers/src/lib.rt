@@ -1,5 +1,5 @@
 // Records written behind bytes that are there. Where memory fails, or a record is refused, the bytes stay as they were.
-// What is written is read back, whole.
+// What is written is read back, whole, where records are in their order and messages are the channel's.
 #![tactic(auto)]
 
 pub mod heard;

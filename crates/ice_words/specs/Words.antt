@@ -1,6 +1,6 @@
 -- What the words of a command line ask for, and what is told of words that ask for nothing.
 -- Numbered, misuse_of, Asked, misuse_text, place_of, Told. Assumes nothing.
-use Rattle.std.specs.Prelude.{◌≡◌, ℕ, ◌<◌, ◌≤◌, ◌⊎◌, List, ◌++◌, length, Some, None, Ok, Err, string_bytes, codes, decimal, Option, Result, String, MatchOption, slice_index_or}
+use Rattle.std.specs.Prelude.{◌≡◌, ℕ, ◌<◌, ◌≤◌, ◌⊎◌, List, ◌++◌, length, Some, None, Ok, Err, string_bytes, codes, decimal, Option, Result, String, slice_index_or}
 use Rattle.std.specs.declared.alloc.Global.{Global}
 use Rattle.command_words.specs.Numbers.{IsNumber, number_of}
 use Rattle.command_words.specs.Wrong as line

@@ -1,6 +1,6 @@
 -- What the arguments of the program `plan` mean, each by itself and all together.
 -- Dashed, Means; numbers_of, is_raw, Fine, Sound, StopsAt, wished, Answer; Stops, Joins, stopped_by, ended_with, place_of, AllMeant. Assumes nothing.
-use Rattle.std.specs.Prelude.{◌≡◌, ℕ, ◌^◌, ◌<◌, ◌≤◌, Bool, true, false, cond, ◌||◌, List, [], ◌∷◌, ◌++◌, length, take, Some, None, Ok, Err, string_bytes, codes, Option, Result, String, ◌≢◌, slice_index, slice_index_or}
+use Rattle.std.specs.Prelude.{◌≡◌, ℕ, ◌<◌, ◌≤◌, Bool, true, false, cond, ◌||◌, List, [], ◌∷◌, ◌++◌, length, take, Some, None, Ok, Err, string_bytes, codes, Option, Result, String, ◌≢◌, slice_index, slice_index_or}
 use Rattle.std.specs.List.{AllByRecursion}
 use Rattle.std.specs.declared.alloc.Global.{Global}
 use Rattle.command_words.specs.Numbers.{IsNumber, number_of}

@@ -1,7 +1,7 @@
 -- From the test over the whole table of inverses to each of its entries: one induction over a row, one step over the rows.
 -- rows_long, rows_entry, rows_more. Assumes nothing.
-use Rattle.std.proofs.Common.{◌≡◌, ℕ, zero, suc, ◌+◌, ◌-◌, ◌*◌, ◌%◌, ◌<◌, ◌≤◌, true, ◌&&◌, eqb, ltb, List, [], ◌∷◌, length, get_or, take, drop, sym, ap, ◌∙◌, subst, add-zero, arith}
-use Rattle.std.proofs.lemmas.List.{at_drop_more, get_or-take, get_or-drop, length-take, length-drop, drop-drop}
+use Rattle.std.proofs.Common.{◌≡◌, ℕ, zero, suc, ◌+◌, ◌-◌, ◌*◌, ◌%◌, ◌<◌, ◌≤◌, true, ◌&&◌, eqb, ltb, List, [], ◌∷◌, length, get_or, take, drop, sym, ◌∙◌, subst, add-zero, arith}
+use Rattle.std.proofs.lemmas.List.{at_drop_more, length-take}
 use Rattle.std.proofs.lemmas.Bool.{and_parts, ltb-true, eqb-true}
 use Rattle.channels.specs.Rows.{Inverse, row, rows}
 
@@ -16,34 +16,30 @@ row_entry q a (v ∷ vs) t (suc i) h =
     let r = row_entry q (suc a) vs x.1 i (omega arith) in
     subst (λ (b : ℕ). Inverse q b (get_or vs i 0)) (omega arith) r
 
-module _ (qs vs : List ℕ) (i n q : ℕ) (h : i < length qs) (e : q ≡ get_or qs i 0) (t : rows (drop i qs) (drop n vs) ≡ true) where
-  at_row : (eqb (length (take (q - 1) (drop n vs))) (q - 1) && row q 1 (take (q - 1) (drop n vs)) && rows (drop (i + 1) qs) (drop (q - 1) (drop n vs))) ≡ true
-  at_row = subst (λ (x : ℕ). (eqb (length (take (x - 1) (drop n vs))) (x - 1) && row x 1 (take (x - 1) (drop n vs)) && rows (drop (i + 1) qs) (drop (x - 1) (drop n vs))) ≡ true) (sym e)
-      (sym (at_drop_more (λ l. rows l (drop n vs)) qs i 0 h) ∙ t)
+module _ (qs vs : List ℕ) (i q : ℕ) (h : i < length qs) (e : q ≡ get_or qs i 0) (t : rows (drop i qs) vs ≡ true) where
+  at_row : (eqb (length (take (q - 1) vs)) (q - 1) && row q 1 (take (q - 1) vs) && rows (drop (i + 1) qs) (drop (q - 1) vs)) ≡ true
+  at_row = subst (λ (x : ℕ). (eqb (length (take (x - 1) vs)) (x - 1) && row x 1 (take (x - 1) vs) && rows (drop (i + 1) qs) (drop (x - 1) vs)) ≡ true) (sym e)
+      (sym (at_drop_more (λ l. rows l vs) qs i 0 h) ∙ t)
 
-  parts : (length (take (q - 1) (drop n vs)) ≡ q - 1) × (row q 1 (take (q - 1) (drop n vs)) ≡ true) × (rows (drop (i + 1) qs) (drop (q - 1) (drop n vs)) ≡ true)
+  parts : (length (take (q - 1) vs) ≡ q - 1) × (row q 1 (take (q - 1) vs) ≡ true) × (rows (drop (i + 1) qs) (drop (q - 1) vs) ≡ true)
   parts =
-      let a = and_parts (eqb (length (take (q - 1) (drop n vs))) (q - 1) && row q 1 (take (q - 1) (drop n vs))) (rows (drop (i + 1) qs) (drop (q - 1) (drop n vs))) at_row in
-      let b = and_parts (eqb (length (take (q - 1) (drop n vs))) (q - 1)) (row q 1 (take (q - 1) (drop n vs))) a.0 in
-      (eqb-true (length (take (q - 1) (drop n vs))) (q - 1) b.0, b.1, a.1)
+      let a = and_parts (eqb (length (take (q - 1) vs)) (q - 1) && row q 1 (take (q - 1) vs)) (rows (drop (i + 1) qs) (drop (q - 1) vs)) at_row in
+      let b = and_parts (eqb (length (take (q - 1) vs)) (q - 1)) (row q 1 (take (q - 1) vs)) a.0 in
+      (eqb-true (length (take (q - 1) vs)) (q - 1) b.0, b.1, a.1)
 
   -- the row of q lies in the table
-  pub rows_long : q - 1 ≤ length vs - n
+  pub rows_long : q - 1 ≤ length vs
   rows_long =
-      let e' = sym (length-take (q - 1) (drop n vs)) ∙ parts.0 in
-      let f = length-drop n vs in
+      let e' = sym (length-take (q - 1) vs) ∙ parts.0 in
       omega arith
 
   -- an entry of the row of q
-  pub rows_entry : (a : ℕ) → 0 < a → a < q → Inverse q a (get_or vs (n + a - 1) 0)
+  pub rows_entry : (a : ℕ) → 0 < a → a < q → Inverse q a (get_or (take (q - 1) vs) (a - 1) 0)
   rows_entry a p l =
       let long = parts.0 in
-      let r = row_entry q 1 (take (q - 1) (drop n vs)) parts.1 (a - 1) (omega arith) in
-      let g : get_or (take (q - 1) (drop n vs)) (a - 1) 0 ≡ get_or vs (n + (a - 1)) 0 = get_or-take (q - 1) (drop n vs) (a - 1) 0 (omega arith) ∙ get_or-drop n vs (a - 1) 0 in
-      let k : n + (a - 1) ≡ n + a - 1 = omega arith in
-      let s = subst (λ (b : ℕ). Inverse q b (get_or (take (q - 1) (drop n vs)) (a - 1) 0)) (omega arith) r in
-      subst (λ (v : ℕ). Inverse q a v) (g ∙ ap (λ (j : ℕ). get_or vs j 0) k) s
+      let r = row_entry q 1 (take (q - 1) vs) parts.1 (a - 1) (omega arith) in
+      subst (λ (b : ℕ). Inverse q b (get_or (take (q - 1) vs) (a - 1) 0)) (omega arith) r
 
   -- the rows after it
-  pub rows_more : rows (drop (i + 1) qs) (drop (n + (q - 1)) vs) ≡ true
-  rows_more = rw (← drop-drop (q - 1) n vs) parts.2
+  pub rows_more : rows (drop (i + 1) qs) (drop (q - 1) vs) ≡ true
+  rows_more = parts.2

@@ -1,15 +1,19 @@
 -- A number is looked for in a list, place by place: what is left decides.
--- listed_here, listed_more, listed_none. Assumes nothing.
-use Rattle.std.proofs.Common.{◌≡◌, ℕ, ◌+◌, ◌<◌, ◌≤◌, true, false, ◌||◌, eqb, List, length, get_or, drop, ap, ◌∙◌}
+-- listed_any, listed_more, listed_none. Assumes nothing.
+use Rattle.std.proofs.Common.{◌≡◌, ℕ, ◌+◌, ◌<◌, ◌≤◌, false, ◌||◌, eqb, List, [], ◌∷◌, length, get_or, drop, refl, ap, ◌∙◌, arith}
 use Rattle.std.proofs.lemmas.List.{at_drop_more, at_drop_all}
-use Rattle.std.proofs.lemmas.Bool.{eq-eqb, ne_eqb}
+use Rattle.std.proofs.lemmas.Bool.{ne_eqb}
+use Rattle.std.proofs.lemmas.Bool.Decides.{nat_tests}
+use Rattle.std.specs.List.{list_any}
 use Rattle.speakall.specs.Plan.{listed}
 
-pub listed_here : (q : ℕ) (xs : List ℕ) (i : ℕ) → i < length xs → q ≡ get_or xs i 0 → listed q (drop i xs) ≡ true
+same_test : (x y : ℕ) → eqb x y ≡ eqb y x
+same_test x y = grind (arith, nat_tests)
+
+pub listed_any : (q : ℕ) (xs : List ℕ) → list_any (λ x. eqb x q) xs ≡ listed q xs
 unfolding listed
-listed_here q xs i h e =
-    let s : listed q (drop i xs) ≡ (eqb q (get_or xs i 0) || listed q (drop (i + 1) xs)) = at_drop_more (listed q) xs i 0 h in
-    s ∙ ap (λ b. b || listed q (drop (i + 1) xs)) (eq-eqb q (get_or xs i 0) e)
+listed_any q [] = refl
+listed_any q (x ∷ xs) = rw (same_test x q, listed_any q xs)
 
 pub listed_more : (q : ℕ) (xs : List ℕ) (i : ℕ) → i < length xs → (q ≡ get_or xs i 0 → ⊥) → listed q (drop i xs) ≡ listed q (drop (i + 1) xs)
 unfolding listed

@@ -5,8 +5,5 @@ ghost use Rattle.command_words.specs.Numbers.{Reads};
 pub fn number(text: &str) -> Option<u64>
     ensures { Reads text.now result }
 {
-    match text.parse::<u64>() {
-        Ok(n) => Some(n),
-        Err(_) => None,
-    }
+    text.parse::<u64>().ok()
 }

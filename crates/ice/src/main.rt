@@ -3,10 +3,11 @@
 #![tactic(auto)]
 
 use channels::{Channel, Fault};
+use command_words::Line;
 use frames::Frame;
 use ice_lines::SIGNS;
+use ice_speakers::Heard;
 use ice_words::{Misuse, Request, Spoken, USAGE};
-use plan_words::Line;
 use std::alloc::Global;
 use std::env;
 use std::io::{BufWriter, Write};
@@ -39,7 +40,7 @@ fn readings(
     numbers: &[u32],
 ) -> Result<Vec<String>, Fault> {
     let mut lines = Vec::new(heap);
-    let mut message = vec![in heap; 0; channel.numbers() as usize]?;
+    let mut message = vec![in heap; 0; usize::from(channel.numbers())]?;
     for number in numbers {
         let words = frame.words(heap, *number)?;
         lines.push(ice_lines::heard(heap, *number, &words)?)?;
@@ -49,26 +50,31 @@ fn readings(
     Ok(lines)
 }
 
-// The sections below the channel's line.
-fn sections(heap: Global, channel: Channel, spoken: &[Spoken]) -> Result<[Vec<String>; 4], Fault> {
-    let speakers = ice_words::speakers_of(heap, channel, spoken)?;
-    let frame = Frame::hear(heap, channel, &speakers)?;
-    let numbers = ice_words::numbers_of(heap, &speakers)?;
+// What is shown of a frame: the channel's line, and the sections below it.
+#[derive(Drop)]
+struct Picture {
+    line: Line,
+    sections: [Vec<String>; 4],
+}
+
+// What is shown of the frame in which these speak, on the channel with these numbers; or why there is none.
+fn draw(heap: Global, q: u64, d: u64, k: u64, spoken: &[Spoken]) -> Result<Picture, Fault> {
+    let channel = ice_words::channel_of(q, d, k)?;
+    let Heard { frame, numbers } = ice_speakers::hear(heap, channel, spoken)?;
     let plans = plans(heap, channel, &numbers)?;
     let grid = grid(heap, channel.parts(), &frame, &numbers)?;
     let meetings = ice_lines::meetings(heap, channel, &numbers)?;
     let readings = readings(heap, channel, &frame, &numbers)?;
-    Ok([plans, grid, meetings, readings])
+    Ok(Picture {
+        line: Line(channel),
+        sections: [plans, grid, meetings, readings],
+    })
 }
 
 // Prints the channel's line and the sections, each after an empty line.
-fn show(
-    rt: &HostRuntime,
-    channel: Channel,
-    sections: [Vec<String>; 4],
-) -> anyhow::Result<ExitCode> {
+fn print(rt: &HostRuntime, picture: Picture) -> anyhow::Result<ExitCode> {
     let mut out = BufWriter::new(rt.alloc(), rt.stdout())?;
-    let line = Line(channel);
+    let Picture { line, sections } = picture;
     writeln!(out, "{line}")?;
     for section in sections {
         writeln!(out)?;
@@ -91,19 +97,8 @@ fn correct(rt: &HostRuntime, misuse: Misuse, texts: &[String]) -> anyhow::Result
     Ok(ExitCode::FAILURE)
 }
 
-// The frame is shown, or told why there is none.
-fn frame(
-    rt: &HostRuntime,
-    channel: Result<Channel, Fault>,
-    spoken: &[Spoken],
-) -> anyhow::Result<ExitCode> {
-    let fault = match channel {
-        Ok(channel) => match sections(rt.alloc(), channel, spoken) {
-            Ok(sections) => return show(rt, channel, sections),
-            Err(fault) => fault,
-        },
-        Err(fault) => fault,
-    };
+// Tells why there is no frame, and fails.
+fn refuse(rt: &HostRuntime, fault: Fault) -> anyhow::Result<ExitCode> {
     eprintln!(rt; "{fault}")?;
     Ok(ExitCode::FAILURE)
 }
@@ -115,9 +110,10 @@ fn main(rt: HostRuntime) -> anyhow::Result<ExitCode> {
             print!(rt; "{USAGE}")?;
             Ok(ExitCode::SUCCESS)
         }
-        Ok(Request::Frame { q, d, k, spoken }) => {
-            frame(&rt, ice_words::channel_of(q, d, k), &spoken)
-        }
+        Ok(Request::Frame { q, d, k, spoken }) => match draw(rt.alloc(), q, d, k, &spoken) {
+            Ok(picture) => print(&rt, picture),
+            Err(fault) => refuse(&rt, fault),
+        },
         Err(misuse) => correct(&rt, misuse, &texts),
     }
 }

@@ -7,6 +7,7 @@ mod speakers;
 mod wide;
 
 pub use heard::{Heard, hear};
+pub use speakers::{numbers_of, speakers_of};
 pub use wide::channel_of;
 
 // Numbers too wide, and speakers that cannot speak.

@@ -15,11 +15,7 @@ use std::alloc::{AllocError, Global};
 fn all_narrowed(heap: Global, numbers: &[u64]) -> Result<Vec<u32>, AllocError>
     ensures { IfOk result (λ v. v.items ≡ map narrow numbers.now) }
 {
-    let mut all = Vec::new(heap);
-    for n in numbers {
-        all.push(narrowed(*n))?;
-    }
-    Ok(all)
+    numbers.iter().map(|n| narrowed(*n)).collect(heap)
 }
 
 // The message that a sender says: the one given, or s zeros.
@@ -28,7 +24,7 @@ fn message_of(heap: Global, channel: Channel, spoken: &Spoken) -> Result<Vec<u32
 {
     match &spoken.message {
         Some(numbers) => all_narrowed(heap, numbers),
-        None => vec![in heap; 0; channel.numbers() as usize],
+        None => vec![in heap; 0; usize::from(channel.numbers())],
     }
 }
 
@@ -53,9 +49,5 @@ pub fn speakers_of(
 pub fn numbers_of(heap: Global, speakers: &[Speaker]) -> Result<Vec<u32>, AllocError>
     ensures { IfOk result (λ v. v.items ≡ map number_in speakers.now) }
 {
-    let mut numbers = Vec::new(heap);
-    for speaker in speakers {
-        numbers.push(speaker.number)?;
-    }
-    Ok(numbers)
+    speakers.iter().map(|speaker| speaker.number).collect(heap)
 }

@@ -22,8 +22,5 @@ pub fn channel_of(q: u64, d: u64, k: u64) -> Result<Channel, Fault>
 pub fn narrowed(n: u64) -> u32
     ensures { result ≡ narrow n }
 {
-    match u32::try_from(n) {
-        Ok(n) => n,
-        Err(_) => u32::MAX,
-    }
+    u32::try_from(n).unwrap_or(u32::MAX)
 }

@@ -1,8 +1,11 @@
 -- What the words of a command line ask for, and what is told of words that ask for nothing.
--- Numbered, Asked, misuse_text, place_of, Told. Assumes nothing.
-use Rattle.std.specs.Prelude.{◌≡◌, ℕ, ◌<◌, ◌≤◌, ◌⊎◌, List, ◌++◌, length, Some, None, Ok, Err, string_bytes, codes, decimal, Option, Result, String, MatchOption, slice_index_or}
+-- Numbered, misuse_of, Asked, misuse_text, place_of, Told. Assumes nothing.
+use Rattle.std.specs.Prelude.{◌≡◌, ℕ, ◌<◌, ◌≤◌, ◌⊎◌, List, ◌++◌, length, Some, None, Ok, Err, string_bytes, codes, decimal, Option, Result, String, slice_index_or}
 use Rattle.std.specs.declared.alloc.Global.{Global}
-use Rattle.plan_words.specs.Words.{IsNumber, number_of}
+use Rattle.command_words.specs.Numbers.{IsNumber, number_of}
+use Rattle.command_words.specs.Wrong as line
+use Rattle.sender_words.specs.declared.spoken.Wrong.{Wrong}
+use Rattle.sender_words.specs.declared.spoken.Wrong.TheVariants as wrong
 use Rattle.ice_words.specs.declared.request.Request.{Request}
 use Rattle.ice_words.specs.declared.request.Request.TheVariants.{Help, Frame}
 use Rattle.ice_words.specs.declared.request.Misuse.{Misuse}
@@ -12,6 +15,12 @@ use Rattle.ice_words.specs.declared.request.Misuse.TheVariants.{Nothing, Unknown
 abbrev pub Numbered : List (String Global) → ℕ → Result ℕ Misuse → Type 0
 Numbered texts i (Ok n) = (s : String Global) → (i < length texts) × IsNumber (string_bytes (slice_index_or texts i s)) × (number_of (string_bytes (slice_index_or texts i s)) ≡ n)
 Numbered texts i (Err m) = ((m ≡ NoNumber i) × (i < length texts)) ⊎ ((m ≡ TooFew (length texts)) × (length texts ≤ i))
+
+-- why the word in this place gives no sender
+abbrev pub misuse_of : ℕ → Wrong → Misuse
+misuse_of i wrong.NoSender = NoSender i
+misuse_of i wrong.NoMessage = NoMessage i
+misuse_of i wrong.Memory = Memory
 
 -- a frame is asked for by five words or more, and its channel by the second to the fourth
 abbrev pub Asked : List (String Global) → Result Request Misuse → Type 0
@@ -43,6 +52,4 @@ place_of Memory = None
 
 -- the line for the user: the word that is wrong, where there is one, and what is wrong
 abbrev pub Told : List (String Global) → Misuse → List ℕ → Type 0
-Told texts m line =
-    MatchOption (place_of m) (line ≡ codes "ice: " ++ misuse_text m)
-    (λ i. (s : String Global) → i < length texts → line ≡ codes "ice: " ++ (string_bytes (slice_index_or texts i s) ++ (codes ": " ++ misuse_text m)))
+Told texts m text = line.Told (codes "ice") (line.words_in texts) (place_of m) (misuse_text m) text

@@ -3,11 +3,11 @@
 
 mod misuse;
 mod request;
-mod speakers;
 
+pub use ice_speakers::{channel_of, numbers_of, speakers_of};
 pub use misuse::{USAGE, told};
-pub use request::{Misuse, Request, Spoken, read_words};
-pub use speakers::{channel_of, numbers_of, speakers_of};
+pub use request::{Misuse, Request, read_words};
+pub use sender_words::Spoken;
 
 #[cfg(test)]
 mod tests;

@@ -56,11 +56,5 @@ impl fmt::Display for Misuse {
 pub fn told(heap: Global, misuse: Misuse, texts: &[String]) -> Result<String, AllocError>
     ensures { IfOk result (λ s. Told texts.now misuse (string_bytes s)) }
 {
-    let Some(i) = misuse.place() else {
-        return format!(in heap; "ice: {misuse}");
-    };
-    match texts.get(i) {
-        Some(text) => format!(in heap; "ice: {text}: {misuse}"),
-        None => format!(in heap; "ice: {misuse}"),
-    }
+    command_words::told(heap, "ice", texts, misuse.place(), &misuse)
 }

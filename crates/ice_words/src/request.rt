@@ -1,15 +1,12 @@
 // What the arguments ask for: `frame`, the channel's three numbers, and then a word for each sender.
-ghost use Rattle.ice_words.specs.Words.{Asked, Numbered};
+ghost use Rattle.ice_words.specs.Words.{Asked, Numbered, misuse_of};
+ghost use Rattle.std.specs.Prelude.{◌≡◌};
 
+use command_words::{number, word_at};
+use options::is_given;
+use sender_words::{Spoken, Wrong, spoken_of};
 use std::alloc::{AllocError, AllocFailed, Global};
 use std::collections::BTreeSet;
-
-// One sender's word: its number, and the message if one is given. As wide as they were written.
-#[derive(Drop)]
-pub struct Spoken {
-    pub number: u64,
-    pub message: Option<Vec<u64>>,
-}
 
 #[derive(Drop)]
 pub enum Request {
@@ -52,60 +49,25 @@ impl<T: Drop> From<AllocFailed<T>> for Misuse {
     }
 }
 
-// Whether one of the words is `--help`.
-fn asks_help(texts: &[String]) -> bool {
-    for text in texts {
-        if text.as_str() == "--help" {
-            return true;
+impl Misuse {
+    // Why the word in this place gives no sender.
+    fn of(i: usize, wrong: Wrong) -> Misuse
+        ensures { result ≡ misuse_of i wrong }
+    {
+        match wrong {
+            Wrong::NoSender => Misuse::NoSender(i),
+            Wrong::NoMessage => Misuse::NoMessage(i),
+            Wrong::Memory => Misuse::Memory,
         }
     }
-    false
 }
 
 // The number at a place of the words.
 fn number_at(texts: &[String], i: usize) -> Result<u64, Misuse>
     ensures { Numbered texts.now i result }
 {
-    let Some(text) = texts.get(i) else {
-        return Err(Misuse::TooFew(texts.len()));
-    };
-    match text.as_str().parse::<u64>() {
-        Ok(n) => Ok(n),
-        Err(_) => Err(Misuse::NoNumber(i)),
-    }
-}
-
-// The numbers between the commas of a text; none where one of them is no number.
-fn listed(heap: Global, text: &str) -> Result<Option<Vec<u64>>, AllocError> {
-    let mut numbers = Vec::new(heap);
-    for piece in text.split(',') {
-        let Ok(n) = piece.parse::<u64>() else {
-            return Ok(None);
-        };
-        numbers.push(n)?;
-    }
-    Ok(Some(numbers))
-}
-
-// The sender that a word, in this place, gives, with its message.
-fn spoken_in(heap: Global, i: usize, text: &str) -> Result<Spoken, Misuse> {
-    let (name, list) = match text.split_once('=') {
-        Some((name, list)) => (name, Some(list)),
-        None => (text, None),
-    };
-    let Ok(number) = name.parse::<u64>() else {
-        return Err(Misuse::NoSender(i));
-    };
-    let Some(list) = list else {
-        return Ok(Spoken {
-            number,
-            message: None,
-        });
-    };
-    match listed(heap, list)? {
-        None => Err(Misuse::NoMessage(i)),
-        message => Ok(Spoken { number, message }),
-    }
+    let text = word_at(texts, i).ok_or(Misuse::TooFew(texts.len()))?;
+    number(text).ok_or(Misuse::NoNumber(i))
 }
 
 // The senders that the words from the fifth on give.
@@ -113,7 +75,7 @@ fn all_spoken(heap: Global, texts: &[String]) -> Result<Vec<Spoken>, Misuse> {
     let mut seen = BTreeSet::new(heap);
     let mut all = Vec::new(heap);
     for (i, text) in texts.iter().enumerate().skip(4) {
-        let spoken = spoken_in(heap, i, text.as_str())?;
+        let spoken = spoken_of(heap, text.as_str()).map_err(|wrong| Misuse::of(i, wrong))?;
         if !seen.insert(spoken.number)? {
             return Err(Misuse::Twice(i));
         }
@@ -126,13 +88,11 @@ fn all_spoken(heap: Global, texts: &[String]) -> Result<Vec<Spoken>, Misuse> {
 pub fn read_words(heap: Global, texts: &[String]) -> Result<Request, Misuse>
     ensures { Asked texts.now result }
 {
-    if asks_help(texts) {
+    if is_given("--help", texts) {
         return Ok(Request::Help);
     }
-    let Some(command) = texts.first() else {
-        return Err(Misuse::Nothing);
-    };
-    if command.as_str() != "frame" {
+    let command = word_at(texts, 0).ok_or(Misuse::Nothing)?;
+    if command != "frame" {
         return Err(Misuse::Unknown(0));
     }
     let q = number_at(texts, 1)?;

@@ -1,12 +1,18 @@
 -- The words are looked at one after the other: what is left decides.
--- given_here, given_more, given_none; kept-one, kept_none; without_more, without_all. Assumes nothing.
-use Rattle.std.proofs.Common.{◌≡◌, ℕ, ◌+◌, ◌<◌, ◌≤◌, Bool, true, false, cond, ◌||◌, List, [], ◌∷◌, ◌++◌, map, length, get_or, drop, string_bytes, String, sym, refl, ap, ◌∙◌, append_assoc, append-nil, arith}
+-- given_in; kept-one, kept_none; without_more, without_all. Assumes nothing.
+use Rattle.std.proofs.Common.{◌≡◌, ℕ, ◌+◌, ◌<◌, ◌≤◌, Bool, true, false, cond, ◌||◌, List, [], ◌∷◌, ◌++◌, length, get_or, drop, string_bytes, String, sym, refl, ap, ◌∙◌, append_assoc, append-nil}
+use Rattle.std.specs.List.{list_any}
 use Rattle.std.specs.Str.{bytes_eq}
 use Rattle.std.proofs.lemmas.Slice.Eq.{bytes_eq-Decides}
 use Rattle.std.proofs.lemmas.List.{at_drop_more, at_drop_all, map_push}
 use Rattle.std.specs.declared.alloc.Global.{Global}
 use Rattle.command_words.specs.Wrong.{words_in}
 use Rattle.options.specs.Options.{is_given, kept_word, without}
+
+-- the option stands among the texts where a text holds it
+pub given_in : (o : List ℕ) (texts : List (String Global)) → list_any (λ s. bytes_eq (string_bytes s) o) texts ≡ is_given o (words_in texts)
+given_in o [] = refl
+given_in o (s ∷ ss) = ap (λ b. bytes_eq (string_bytes s) o || b) (given_in o ss)
 
 same : (a b : List ℕ) → a ≡ b → bytes_eq a b ≡ true
 same a b e = (bytes_eq-Decides a b).1 e
@@ -19,27 +25,11 @@ other a b n = go (bytes_eq a b) (bytes_eq-Decides a b).0
     go false f = refl
 
 module _ (o : List ℕ) (texts : List (String Global)) (i : ℕ) (x : String Global) (w : List ℕ) (h : i < length texts) (is : x ≡ get_or texts i x) (e : w ≡ string_bytes x) where
-  given_step : is_given o (words_in (drop i texts)) ≡ (bytes_eq w o || is_given o (words_in (drop (i + 1) texts)))
-  unfolding is_given
-  given_step =
-      at_drop_more (λ l. is_given o (words_in l)) texts i x h ∙
-      ap (λ (z : List ℕ). bytes_eq z o || is_given o (words_in (drop (i + 1) texts))) (ap string_bytes (sym is) ∙ sym e)
-
-  pub given_here : w ≡ o → is_given o (words_in (drop i texts)) ≡ is_given o (words_in texts) → true ≡ is_given o (words_in texts)
-  given_here q t = sym (ap (λ b. b || is_given o (words_in (drop (i + 1) texts))) (same w o q)) ∙ sym given_step ∙ t
-
-  pub given_more : (w ≡ o → ⊥) → is_given o (words_in (drop i texts)) ≡ is_given o (words_in texts) → is_given o (words_in (drop (i + 1) texts)) ≡ is_given o (words_in texts)
-  given_more n t = sym (ap (λ b. b || is_given o (words_in (drop (i + 1) texts))) (other w o n)) ∙ sym given_step ∙ t
-
   pub without_more : (done after : List (List ℕ)) → after ≡ done ++ kept_word o w → done ++ without o (words_in (drop i texts)) ≡ without o (words_in texts) → after ++ without o (words_in (drop (i + 1) texts)) ≡ without o (words_in texts)
   unfolding without
   without_more done after q t =
       ap (λ l. l ++ without o (words_in (drop (i + 1) texts))) q ∙ append_assoc done (kept_word o w) (without o (words_in (drop (i + 1) texts))) ∙
       ap (λ l. done ++ l) (sym (at_drop_more (λ l. without o (words_in l)) texts i x h ∙ ap (λ (z : List ℕ). kept_word o z ++ without o (words_in (drop (i + 1) texts))) (ap string_bytes (sym is) ∙ sym e))) ∙ t
-
-pub given_none : (o : List ℕ) (texts : List (String Global)) (i : ℕ) → length texts ≤ i → is_given o (words_in (drop i texts)) ≡ is_given o (words_in texts) → false ≡ is_given o (words_in texts)
-unfolding is_given
-given_none o texts i h t = sym (at_drop_all (λ l. is_given o (words_in l)) texts i h) ∙ t
 
 pub without_all : (o : List ℕ) (texts : List (String Global)) (i : ℕ) (done : List (List ℕ)) → length texts ≤ i → done ++ without o (words_in (drop i texts)) ≡ without o (words_in texts) → done ≡ without o (words_in texts)
 unfolding without

@@ -1,12 +1,12 @@
 -- Options among the words of a command line, each word by its bytes.
 -- is_given, kept_word, without. Assumes nothing.
-use Rattle.std.specs.Prelude.{ℕ, Bool, false, cond, ◌||◌, List, [], ◌∷◌, ◌++◌}
+use Rattle.std.specs.Prelude.{ℕ, Bool, cond, List, [], ◌∷◌, ◌++◌}
+use Rattle.std.specs.List.{list_any}
 use Rattle.std.specs.Str.{bytes_eq}
 
 -- the option stands among the words
-unfoldable pub is_given : (option : List ℕ) → List (List ℕ) → Bool
-is_given o [] = false
-is_given o (w ∷ ws) = bytes_eq w o || is_given o ws
+abbrev pub is_given : (option : List ℕ) → List (List ℕ) → Bool
+is_given o ws = list_any (λ w. bytes_eq w o) ws
 
 -- a word that isn't the option
 abbrev pub kept_word : (option word : List ℕ) → List (List ℕ)

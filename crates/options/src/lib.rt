@@ -11,12 +11,7 @@ use std::alloc::{AllocError, Global};
 pub fn is_given(option: &str, texts: &[String]) -> bool
     ensures { result ≡ is_given option.now (words_in texts.now) }
 {
-    for text in texts {
-        if text.as_str() == option {
-            return true;
-        }
-    }
-    false
+    texts.iter().any(|text| text.as_str() == option)
 }
 
 // Puts a word after the others, unless it is the option.

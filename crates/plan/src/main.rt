@@ -2,9 +2,10 @@
 // All that can be said of its answers is said by the contracts of `planning` and `plan_words`.
 #![tactic(auto)]
 
-use channels::Fault;
+use channels::{Channel, Fault};
 use plan_words::{Line, Misuse, Refusal, Request, USAGE};
 use planning::Wish;
+use std::alloc::Global;
 use std::env;
 use std::io::{BufWriter, Write};
 use std::process::ExitCode;
@@ -23,19 +24,26 @@ fn correct(rt: &HostRuntime, misuse: Misuse, texts: &[String]) -> anyhow::Result
     Ok(ExitCode::FAILURE)
 }
 
-// The best channel, and then all that would do, the best first.
-fn show(rt: &HostRuntime, wish: Wish) -> anyhow::Result<ExitCode> {
-    let best = match planning::best(wish) {
-        Ok(channel) => Line(channel),
-        Err(fault) => return refuse(rt, fault, wish),
-    };
-    let all = match planning::all(rt.alloc(), wish) {
-        Ok(channels) => channels,
-        Err(fault) => return refuse(rt, fault, wish),
-    };
+// The best channel, and all that would do, the best first.
+#[derive(Drop)]
+struct Found {
+    best: Channel,
+    all: Vec<Channel>,
+}
+
+fn find(heap: Global, wish: Wish) -> Result<Found, Fault> {
+    Ok(Found {
+        best: planning::best(wish)?,
+        all: planning::all(heap, wish)?,
+    })
+}
+
+// Prints the best channel, and then all that would do.
+fn print(rt: &HostRuntime, found: Found) -> anyhow::Result<ExitCode> {
     let mut out = BufWriter::new(rt.alloc(), rt.stdout())?;
+    let best = Line(found.best);
     writeln!(out, "{best}\n\nAll that would do:")?;
-    for channel in all {
+    for channel in found.all {
         let line = Line(channel);
         writeln!(out, "{line}")?;
     }
@@ -43,15 +51,10 @@ fn show(rt: &HostRuntime, wish: Wish) -> anyhow::Result<ExitCode> {
     Ok(ExitCode::SUCCESS)
 }
 
-// The best channel's bytes.
-fn write_raw(rt: &HostRuntime, wish: Wish) -> anyhow::Result<ExitCode> {
-    match planning::best(wish) {
-        Ok(channel) => {
-            rt.stdout().write_all(&plan_words::bytes(channel))?;
-            Ok(ExitCode::SUCCESS)
-        }
-        Err(fault) => refuse(rt, fault, wish),
-    }
+// Writes a channel's bytes.
+fn write_raw(rt: &HostRuntime, channel: Channel) -> anyhow::Result<ExitCode> {
+    rt.stdout().write_all(&plan_words::bytes(channel))?;
+    Ok(ExitCode::SUCCESS)
 }
 
 fn main(rt: HostRuntime) -> anyhow::Result<ExitCode> {
@@ -62,8 +65,14 @@ fn main(rt: HostRuntime) -> anyhow::Result<ExitCode> {
             print!(rt; "{USAGE}")?;
             Ok(ExitCode::SUCCESS)
         }
-        Ok(Request::Plan(wish)) => show(&rt, wish),
-        Ok(Request::Raw(wish)) => write_raw(&rt, wish),
+        Ok(Request::Plan(wish)) => match find(rt.alloc(), wish) {
+            Ok(found) => print(&rt, found),
+            Err(fault) => refuse(&rt, fault, wish),
+        },
+        Ok(Request::Raw(wish)) => match planning::best(wish) {
+            Ok(channel) => write_raw(&rt, channel),
+            Err(fault) => refuse(&rt, fault, wish),
+        },
         Err(misuse) => correct(&rt, misuse, &texts),
     }
 }

@@ -6,10 +6,8 @@ use Rattle.std.proofs.lemmas.List.{get_or_default, take_all, take_more}
 use Rattle.std.proofs.ByRecursion.{All-push}
 use Rattle.plan_words.specs.declared.word.Word.{Word}
 use Rattle.plan_words.specs.declared.word.Word.TheVariants as word
-use Rattle.plan_words.specs.declared.request.Numbers.{Numbers}
-use Rattle.plan_words.specs.declared.request.Numbers.TheVariants.{Zero, One, Two, Three}
 use Rattle.plan_words.specs.declared.request.Asked.{Asked}
-use Rattle.plan_words.specs.Words.{Answer, Fine, Sound, StopsAt, Stops, ended_with, is_raw, list_of, numbers_of, stopped_by}
+use Rattle.plan_words.specs.Words.{Answer, Fine, Sound, StopsAt, Stops, ended_with, is_raw, numbers_of, stopped_by}
 
 numbers_append : (vs ws : List Word) → numbers_of (vs ++ ws) ≡ numbers_of vs ++ numbers_of ws
 numbers_append [] ws = refl
@@ -28,24 +26,19 @@ raw_append (word.Number n ∷ vs) ws = raw_append vs ws
 raw_append (word.NoNumber ∷ vs) ws = raw_append vs ws
 
 -- what was kept of the words read so far
-pub record Held (r : Bool) (n : Numbers) (ws : List Word) : Type 0 where
+pub record Held (r : Bool) (n : List ℕ) (ws : List Word) : Type 0 where
   pub fine : AllByRecursion Fine ws
-  pub numbers : numbers_of ws ≡ list_of n
+  pub numbers : numbers_of ws ≡ n
   pub raw : is_raw ws ≡ r
+  pub few : length n ≤ 3
 
-three : (n : Numbers) → length (list_of n) ≤ 3
-three Zero = omega arith
-three (One a) = omega arith
-three (Two a b) = omega arith
-three (Three a b c) = omega arith
+sound : (r : Bool) (n : List ℕ) (ws : List Word) → Held r n ws → Sound ws
+sound r n ws h = record { fine = h.fine; few = rw h.numbers h.few }
 
-sound : (r : Bool) (n : Numbers) (ws : List Word) → Held r n ws → Sound ws
-sound r n ws h = record { fine = h.fine; few = rw h.numbers (three n) }
+pub held_none : (ws : List Word) → Held false [] (take 0 ws)
+held_none ws = record { fine = tt; numbers = refl; raw = refl; few = omega arith }
 
-pub held_none : (ws : List Word) → Held false Zero (take 0 ws)
-held_none ws = record { fine = tt; numbers = refl; raw = refl }
-
-pub held_more : (ws : List Word) (i : ℕ) (d : Word) (r s : Bool) (n m : Numbers) → i < length ws → Fine (get_or ws i d) × (list_of m ≡ list_of n ++ numbers_of (get_or ws i d ∷ [])) × (s ≡ (r || is_raw (get_or ws i d ∷ []))) → Held r n (take i ws) → Held s m (take (i + 1) ws)
+pub held_more : (ws : List Word) (i : ℕ) (d : Word) (r s : Bool) (n m : List ℕ) → i < length ws → Fine (get_or ws i d) × (m ≡ n ++ numbers_of (get_or ws i d ∷ [])) × (s ≡ (r || is_raw (get_or ws i d ∷ []))) × (length m ≤ 3) → Held r n (take i ws) → Held s m (take (i + 1) ws)
 held_more ws i d r s n m l j h =
     let w = get_or ws i d in
     let t : take (i + 1) ws ≡ take i ws ++ (w ∷ []) = take_more ws i d l in
@@ -53,11 +46,12 @@ held_more ws i d r s n m l j h =
       fine = rw t (All-push Fine (take i ws) w h.fine j.0);
       numbers = rw (t, numbers_append (take i ws) (w ∷ []), h.numbers) (sym j.1);
       raw = rw (t, raw_append (take i ws) (w ∷ []), h.raw) (sym j.2);
+      few = j.3;
     }
 
-module _ (ws : List Word) (i : ℕ) (a : Asked) (l : i < length ws) (h : Held a.raw a.numbers (take i ws)) where
+module _ (ws : List Word) (i : ℕ) (a : Asked) (l : i < length ws) (h : Held a.raw a.numbers.items (take i ws)) where
   stops_at : (w : Word) → w ≡ get_or ws i w → StopsAt ws i w
-  stops_at w e = record { here = l; word = e; before = sound a.raw a.numbers (take i ws) h }
+  stops_at w e = record { here = l; word = e; before = sound a.raw a.numbers.items (take i ws) h }
 
   answer_at : (w : Word) → w ≡ get_or ws i w → Stops a w → Answer ws (stopped_by i w)
   answer_at word.Help e s = (i, stops_at word.Help e)
@@ -69,12 +63,13 @@ module _ (ws : List Word) (i : ℕ) (a : Asked) (l : i < length ws) (h : Held a.
   pub answer_stopped : (d : Word) → Stops a (get_or ws i d) → Answer ws (stopped_by i (get_or ws i d))
   answer_stopped d s = answer_at (get_or ws i d) (get_or_default ws i d (get_or ws i d) l) s
 
-answer_all : (ws : List Word) (r : Bool) (n : Numbers) → Held r n ws → Answer ws (ended_with r n)
-answer_all ws r Zero h = (sound _ _ _ h, ap length h.numbers, omega arith)
-answer_all ws r (One a) h = (sound _ _ _ h, ap length h.numbers, omega arith)
-answer_all ws r (Two a b) h = (sound _ _ _ h, ap length h.numbers, omega arith)
-answer_all ws true (Three a b c) h = (sound _ _ _ h, h.numbers, h.raw)
-answer_all ws false (Three a b c) h = (sound _ _ _ h, h.numbers, h.raw)
+answer_all : (ws : List Word) (r : Bool) (n : List ℕ) → Held r n ws → Answer ws (ended_with r n)
+answer_all ws r [] h = (sound _ _ _ h, ap length h.numbers, omega arith)
+answer_all ws r (a ∷ []) h = (sound _ _ _ h, ap length h.numbers, omega arith)
+answer_all ws r (a ∷ b ∷ []) h = (sound _ _ _ h, ap length h.numbers, omega arith)
+answer_all ws r (a ∷ b ∷ c ∷ d ∷ ds) h = let few = h.few in absurd (omega arith)
+answer_all ws true (a ∷ b ∷ c ∷ []) h = (sound _ _ _ h, h.numbers, h.raw)
+answer_all ws false (a ∷ b ∷ c ∷ []) h = (sound _ _ _ h, h.numbers, h.raw)
 
-pub answer_ended : (ws : List Word) (i : ℕ) (r : Bool) (n : Numbers) → length ws ≤ i → Held r n (take i ws) → Answer ws (ended_with r n)
+pub answer_ended : (ws : List Word) (i : ℕ) (r : Bool) (n : List ℕ) → length ws ≤ i → Held r n (take i ws) → Answer ws (ended_with r n)
 answer_ended ws i r n l h = answer_all ws r n (rw (take_all i ws l) at h)

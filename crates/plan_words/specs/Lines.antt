@@ -1,17 +1,13 @@
--- The lines that the program `plan` answers with, and a channel's bytes.
--- line_of, bytes_of, wish_text, misuse_text, Told. Assumes nothing.
-use Rattle.std.specs.Prelude.{◌≡◌, ℕ, ◌*◌, ◌^◌, ◌<◌, List, [], ◌∷◌, ◌++◌, length, string_bytes, codes, decimal, String, MatchOption, slice_index_or}
+-- What the program `plan` tells beside the lines of channels, and a channel's bytes.
+-- bytes_of, wish_text, misuse_text, Told. Assumes nothing.
+use Rattle.std.specs.Prelude.{ℕ, List, [], ◌∷◌, ◌++◌, codes, decimal, String}
 use Rattle.std.specs.declared.alloc.Global.{Global}
-use Rattle.speakall.specs.Plan.{Channel, size}
+use Rattle.command_words.specs.Wrong as wrong
+use Rattle.speakall.specs.Plan.{Channel}
 use Rattle.planning.specs.declared.wish.Wish.{Wish}
 use Rattle.plan_words.specs.declared.request.Misuse.{Misuse}
 use Rattle.plan_words.specs.declared.request.Misuse.TheVariants.{Unknown, NoNumber, TooMany, TooFew}
 use Rattle.plan_words.specs.Words.{place_of}
-
--- q, d and k, and what follows of them
-abbrev pub line_of : Channel → List ℕ
-line_of c =
-    decimal c.q ++ (codes " " ++ (decimal c.d ++ (codes " " ++ (decimal c.k ++ (codes ": " ++ (decimal (c.q * c.q) ++ (codes " slots, " ++ (decimal (c.q ^ c.d) ++ (codes " senders, messages of " ++ (decimal (size c) ++ codes " numbers"))))))))))
 
 -- the kind of the record, which is 1, and q, d and k
 abbrev pub bytes_of : Channel → List ℕ
@@ -30,6 +26,4 @@ misuse_text (TooFew n) = decimal n ++ codes " of 3 numbers; wanted are SENDERS, 
 
 -- the line for the user: the word that is wrong, where there is one, and what is wrong
 abbrev pub Told : List (String Global) → Misuse → List ℕ → Type 0
-Told texts m line =
-    MatchOption (place_of m) (line ≡ codes "plan: " ++ misuse_text m)
-    (λ i. (s : String Global) → i < length texts → line ≡ codes "plan: " ++ (string_bytes (slice_index_or texts i s) ++ (codes ": " ++ misuse_text m)))
+Told texts m line = wrong.Told (codes "plan") (wrong.words_in texts) (place_of m) (misuse_text m) line

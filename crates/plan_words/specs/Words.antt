@@ -1,9 +1,9 @@
 -- What the arguments of the program `plan` mean, each by itself and all together.
--- number_of, IsNumber, Dashed, Means; numbers_of, is_raw, Fine, Sound, StopsAt, wished, Answer; list_of, Stops, Joins, stopped_by, ended_with, place_of, AllMeant. Assumes nothing.
-use Rattle.std.specs.Prelude.{◌≡◌, ℕ, ◌^◌, ◌<◌, ◌≤◌, Bool, true, false, cond, ◌||◌, List, [], ◌∷◌, ◌++◌, length, take, Some, None, Ok, Err, string_bytes, codes, Option, Result, String, ◌≢◌, slice_index, slice_index_or}
-use Rattle.std.specs.Str.Parse.{IsNumeral, without_leading_plus, digits_value}
+-- Dashed, Means; numbers_of, is_raw, Fine, Sound, StopsAt, wished, Answer; Stops, Joins, stopped_by, ended_with, place_of, AllMeant. Assumes nothing.
+use Rattle.std.specs.Prelude.{◌≡◌, ℕ, ◌<◌, ◌≤◌, Bool, true, false, cond, ◌||◌, List, [], ◌∷◌, ◌++◌, length, take, Some, None, Ok, Err, string_bytes, codes, Option, Result, String, ◌≢◌, slice_index, slice_index_or}
 use Rattle.std.specs.List.{AllByRecursion}
 use Rattle.std.specs.declared.alloc.Global.{Global}
+use Rattle.command_words.specs.Numbers.{IsNumber, number_of}
 use Rattle.planning.specs.declared.wish.Wish.{Wish}
 use Rattle.plan_words.specs.declared.word.Word.{Word}
 use Rattle.plan_words.specs.declared.word.Word.TheVariants as word
@@ -11,17 +11,7 @@ use Rattle.plan_words.specs.declared.request.Request.{Request}
 use Rattle.plan_words.specs.declared.request.Request.TheVariants as ask
 use Rattle.plan_words.specs.declared.request.Misuse.{Misuse}
 use Rattle.plan_words.specs.declared.request.Misuse.TheVariants as misuse
-use Rattle.plan_words.specs.declared.request.Numbers.{Numbers}
-use Rattle.plan_words.specs.declared.request.Numbers.TheVariants.{Zero, One, Two, Three}
 use Rattle.plan_words.specs.declared.request.Asked.{Asked}
-
--- the number that digits write, a plus before them or not
-abbrev pub number_of : List ℕ → ℕ
-number_of text = digits_value 10 (without_leading_plus text)
-
--- such digits, of a number below 2^64
-abbrev pub IsNumber : List ℕ → Type 0
-IsNumber text = IsNumeral 10 (without_leading_plus text) × (number_of text < 2 ^ 64)
 
 -- begins with `-`
 abbrev pub Dashed : List ℕ → Type 0
@@ -83,24 +73,18 @@ Answer ws (Err (misuse.NoNumber i)) = StopsAt ws i word.NoNumber
 Answer ws (Err (misuse.TooMany i)) = (n : ℕ) × StopsAt ws i (word.Number n) × (length (numbers_of (take i ws)) ≡ 3)
 Answer ws (Err (misuse.TooFew n)) = Sound ws × (length (numbers_of ws) ≡ n) × (n < 3)
 
-abbrev pub list_of : Numbers → List ℕ
-list_of Zero = []
-list_of (One a) = a ∷ []
-list_of (Two a b) = a ∷ b ∷ []
-list_of (Three a b c) = a ∷ b ∷ c ∷ []
-
 -- a word that does not go on: none of the two kinds, or a fourth number
 abbrev pub Stops : Asked → Word → Type 0
 Stops a word.Help = Unit {0}
 Stops a word.Raw = ⊥
 Stops a word.Unknown = Unit {0}
-Stops a (word.Number n) = length (list_of a.numbers) ≡ 3
+Stops a (word.Number n) = length a.numbers.items ≡ 3
 Stops a word.NoNumber = Unit {0}
 
 -- one word more
 abbrev pub Joins : Asked → Word → Option Asked → Type 0
 Joins a w None = Stops a w
-Joins a w (Some b) = Fine w × (list_of b.numbers ≡ list_of a.numbers ++ numbers_of (w ∷ [])) × (b.raw ≡ (a.raw || is_raw (w ∷ [])))
+Joins a w (Some b) = Fine w × (b.numbers.items ≡ a.numbers.items ++ numbers_of (w ∷ [])) × (b.raw ≡ (a.raw || is_raw (w ∷ []))) × (length b.numbers.items ≤ 3)
 
 -- what is answered at a word that does not go on
 abbrev pub stopped_by : ℕ → Word → Result Request Misuse
@@ -110,12 +94,13 @@ stopped_by i word.Unknown = Err (misuse.Unknown i)
 stopped_by i (word.Number n) = Err (misuse.TooMany i)
 stopped_by i word.NoNumber = Err (misuse.NoNumber i)
 
--- what is answered after the last word
-abbrev pub ended_with : Bool → Numbers → Result Request Misuse
-ended_with raw Zero = Err (misuse.TooFew 0)
-ended_with raw (One a) = Err (misuse.TooFew 1)
-ended_with raw (Two a b) = Err (misuse.TooFew 2)
-ended_with raw (Three a b c) = Ok (cond raw (ask.Raw (record { senders = a; others = b; numbers = c })) (ask.Plan (record { senders = a; others = b; numbers = c })))
+-- what is answered after the last word, by the numbers among them, which are three at most
+abbrev pub ended_with : Bool → List ℕ → Result Request Misuse
+ended_with raw [] = Err (misuse.TooFew 0)
+ended_with raw (a ∷ []) = Err (misuse.TooFew 1)
+ended_with raw (a ∷ b ∷ []) = Err (misuse.TooFew 2)
+ended_with raw (a ∷ b ∷ c ∷ d ∷ ds) = Err (misuse.TooFew (length (a ∷ b ∷ c ∷ d ∷ ds)))
+ended_with raw (a ∷ b ∷ c ∷ []) = Ok (cond raw (ask.Raw (record { senders = a; others = b; numbers = c })) (ask.Plan (record { senders = a; others = b; numbers = c })))
 
 -- the place of the word that is wrong
 abbrev pub place_of : Misuse → Option ℕ

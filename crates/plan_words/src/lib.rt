@@ -7,7 +7,8 @@ mod misuse;
 mod request;
 mod word;
 
-pub use line::{Line, Refusal, bytes};
+pub use command_words::Line;
+pub use line::{Refusal, bytes};
 pub use misuse::{USAGE, told};
 pub use request::{Misuse, Request, read_words};
 pub use word::{Word, words_of};
@@ -36,7 +37,7 @@ mod tests {
             ("é", Word::NoNumber),
         ];
         for (text, word) in table {
-            assert_eq!(rt; Word::of(text), word);
+            assert_eq!(rt; Word::from(text), word);
         }
     }
 

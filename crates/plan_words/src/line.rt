@@ -1,35 +1,12 @@
-// The lines that the program answers with: a channel with its sizes, and why there is none.
-// And a channel's bytes.
+// Why there is no channel, and a channel's bytes.
 ghost use Rattle.channels.specs.Faults.{fault_text};
 ghost use Rattle.channels.specs.Settings.{settings};
-ghost use Rattle.plan_words.specs.Lines.{bytes_of, line_of, wish_text};
+ghost use Rattle.plan_words.specs.Lines.{bytes_of, wish_text};
 ghost use Rattle.std.specs.Prelude.{◌≡◌, ◌++◌, Some, codes};
 
 use channels::{Channel, Fault};
 use planning::Wish;
 use std::fmt;
-
-// A channel as `29 3 9: 841 slots, 24389 senders, messages of 11 numbers`.
-#[derive(Clone, Copy)]
-pub struct Line(pub Channel);
-
-impl fmt::Display for Line {
-    ghost output = { λ l. Some (line_of (settings l.0)) };
-
-    fn fmt<W: fmt::Write>(&self, f: &mut fmt::Formatter<W>) -> fmt::Result {
-        let channel = self.0;
-        let q = channel.parts();
-        let d = channel.digits();
-        let k = channel.others();
-        let slots = channel.slots();
-        let senders = channel.senders();
-        let numbers = channel.numbers();
-        write!(
-            f,
-            "{q} {d} {k}: {slots} slots, {senders} senders, messages of {numbers} numbers"
-        )
-    }
-}
 
 // Why there is no channel, as `fault 9: no channel for 9000 senders, 9 others and messages of 300 numbers`.
 #[derive(Clone, Copy)]

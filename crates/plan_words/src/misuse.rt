@@ -53,11 +53,5 @@ impl fmt::Display for Misuse {
 pub fn told(heap: Global, misuse: Misuse, texts: &[String]) -> Result<String, AllocError>
     ensures { IfOk result (λ s. Told texts.now misuse (string_bytes s)) }
 {
-    let Some(i) = misuse.place() else {
-        return format!(in heap; "plan: {misuse}");
-    };
-    match texts.get(i) {
-        Some(text) => format!(in heap; "plan: {text}: {misuse}"),
-        None => format!(in heap; "plan: {misuse}"),
-    }
+    command_words::told(heap, "plan", texts, misuse.place(), &misuse)
 }

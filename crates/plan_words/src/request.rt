@@ -1,9 +1,10 @@
 // What the arguments ask for, read word by word: the first that is wrong, or `--help`, decides.
 // Options may stand anywhere among the three numbers.
-ghost use Rattle.plan_words.specs.Words.{Answer, Joins, ended_with, list_of, stopped_by};
-ghost use Rattle.std.specs.Prelude.{◌≡◌, [], ◌∷◌, ◌++◌, length, MatchOption};
+ghost use Rattle.plan_words.specs.Words.{Answer, Joins, ended_with, stopped_by};
+ghost use Rattle.std.specs.Prelude.{◌≡◌};
 
 use crate::word::Word;
+use arrayvec::ArrayVec;
 use planning::Wish;
 
 #[derive(Clone, Copy, PartialEq, Eq, Debug)]
@@ -27,34 +28,12 @@ pub enum Misuse {
     TooFew(usize),
 }
 
-// The numbers read so far: senders, others, and the numbers of a message.
-#[derive(Clone, Copy)]
-enum Numbers {
-    Zero,
-    One(u64),
-    Two(u64, u64),
-    Three(u64, u64, u64),
-}
-
-impl Numbers {
-    // One number more, unless there are three.
-    fn and(self, n: u64) -> Option<Numbers>
-        ensures { MatchOption result (length (list_of self) ≡ 3) (λ more. list_of more ≡ list_of self ++ (n ∷ [])) }
-    {
-        match self {
-            Numbers::Zero => Some(Numbers::One(n)),
-            Numbers::One(a) => Some(Numbers::Two(a, n)),
-            Numbers::Two(a, b) => Some(Numbers::Three(a, b, n)),
-            Numbers::Three(..) => None,
-        }
-    }
-}
-
 // What the words read so far ask for.
-#[derive(Clone, Copy)]
+#[derive(Drop)]
 struct Asked {
     raw: bool,
-    numbers: Numbers,
+    // Senders, others, and the numbers of a message.
+    numbers: ArrayVec<u64, 3>,
 }
 
 impl Asked {
@@ -62,37 +41,34 @@ impl Asked {
     fn with(self, word: Word) -> Option<Asked>
         ensures { Joins self word result }
     {
+        let Asked { raw, mut numbers } = self;
         match word {
-            Word::Raw => Some(Asked { raw: true, ..self }),
-            Word::Number(n) => Some(Asked {
-                numbers: self.numbers.and(n)?,
-                ..self
-            }),
+            Word::Raw => Some(Asked { raw: true, numbers }),
+            Word::Number(n) => {
+                numbers.try_push(n).ok()?;
+                Some(Asked { raw, numbers })
+            }
             _ => None,
         }
     }
 
     // The request, once all words are read.
     fn ended(self) -> Result<Request, Misuse>
-        ensures { result ≡ ended_with self.raw self.numbers }
+        ensures { result ≡ ended_with self.raw self.numbers.items }
     {
-        match self.numbers {
-            Numbers::Zero => Err(Misuse::TooFew(0)),
-            Numbers::One(..) => Err(Misuse::TooFew(1)),
-            Numbers::Two(..) => Err(Misuse::TooFew(2)),
-            Numbers::Three(senders, others, numbers) => {
-                let wish = Wish {
-                    senders,
-                    others,
-                    numbers,
-                };
-                Ok(if self.raw {
-                    Request::Raw(wish)
-                } else {
-                    Request::Plan(wish)
-                })
-            }
-        }
+        let [senders, others, numbers] = self.numbers.as_slice() else {
+            return Err(Misuse::TooFew(self.numbers.len()));
+        };
+        let wish = Wish {
+            senders: *senders,
+            others: *others,
+            numbers: *numbers,
+        };
+        Ok(if self.raw {
+            Request::Raw(wish)
+        } else {
+            Request::Plan(wish)
+        })
     }
 }
 
@@ -114,7 +90,7 @@ pub fn read_words(words: &[Word]) -> Result<Request, Misuse>
 {
     let mut asked = Asked {
         raw: false,
-        numbers: Numbers::Zero,
+        numbers: ArrayVec::new(),
     };
     for (i, word) in words.iter().enumerate() {
         let Some(more) = asked.with(*word) else {

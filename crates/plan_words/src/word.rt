@@ -3,6 +3,7 @@
 ghost use Rattle.plan_words.specs.Words.{AllMeant, Means};
 ghost use Rattle.std.specs.Prelude.{IfOk};
 
+use command_words::number;
 use std::alloc::{AllocError, Global};
 
 #[derive(Clone, Copy, PartialEq, Eq, Debug)]
@@ -18,10 +19,10 @@ pub enum Word {
     NoNumber,
 }
 
-impl Word {
-    pub fn of(text: &str) -> Word
-        ensures { Means text.now result }
-    {
+impl From<&str> for Word {
+    ghost from_gives = { λ text word. Means text.now word };
+
+    fn from(text: &str) -> Word {
         if text == "--help" {
             return Word::Help;
         }
@@ -31,9 +32,9 @@ impl Word {
         if text.starts_with('-') {
             return Word::Unknown;
         }
-        match text.parse::<u64>() {
-            Ok(n) => Word::Number(n),
-            Err(_) => Word::NoNumber,
+        match number(text) {
+            Some(n) => Word::Number(n),
+            None => Word::NoNumber,
         }
     }
 }
@@ -44,7 +45,7 @@ pub fn words_of(heap: Global, texts: &[String]) -> Result<Vec<Word>, AllocError>
 {
     let mut words = Vec::new(heap);
     for text in texts {
-        words.push(Word::of(text.as_str()))?;
+        words.push(Word::from(text.as_str()))?;
     }
     Ok(words)
 }

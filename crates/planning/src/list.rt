@@ -3,21 +3,11 @@
 ghost use Rattle.channels.specs.declared.fault.Fault.TheVariants.{Memory};
 ghost use Rattle.planning.specs.Wishes.{AllBefore, AllThatServe, asked, settings_of};
 ghost use Rattle.speakall.specs.Plan.{sides as listed_sides};
-ghost use Rattle.std.specs.Prelude.{◌≡◌, [], ◌∷◌, ◌++◌, MatchResult};
+ghost use Rattle.std.specs.Prelude.{◌≡◌, MatchResult};
 
 use crate::wish::{Wish, serving};
 use channels::{Channel, Fault, table};
 use std::alloc::Global;
-
-// Puts the channel after those found, or tells that memory fails.
-fn keep(found: &mut Vec<Channel>, channel: Channel) -> Result<(), Fault>
-    ensures { MatchResult result (λ _. found.new.items ≡ found.old.items ++ (channel ∷ [])) (λ e. e ≡ Memory) }
-{
-    if found.push(channel).is_err() {
-        return Err(Fault::Memory);
-    }
-    Ok(())
-}
 
 // Adds the channels with this q that serve, the lowest d first.
 fn add_side(wish: Wish, q: u8, found: &mut Vec<Channel>) -> Result<(), Fault>
@@ -26,7 +16,7 @@ fn add_side(wish: Wish, q: u8, found: &mut Vec<Channel>) -> Result<(), Fault>
 {
     for d in 1..5 {
         if let Some(channel) = serving(wish, q, d) {
-            keep(found, channel)?;
+            found.push(channel)?;
         }
     }
     Ok(())

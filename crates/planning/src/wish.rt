@@ -27,15 +27,7 @@ fn fits(wish: Wish, channel: Channel) -> bool
 pub fn serving(wish: Wish, q: u8, d: u8) -> Option<Channel>
     ensures { MatchOption result (Serves wish (asked wish q d) → ⊥) (λ c. (settings c ≡ asked wish q d) × Serves wish (settings c)) }
 {
-    let Ok(k) = u8::try_from(wish.others) else {
-        return None;
-    };
-    let Ok(channel) = Channel::new(q, d, k) else {
-        return None;
-    };
-    if fits(wish, channel) {
-        Some(channel)
-    } else {
-        None
-    }
+    let k = u8::try_from(wish.others).ok()?;
+    let channel = Channel::new(q, d, k).ok()?;
+    fits(wish, channel).then_some(channel)
 }

@@ -1,12 +1,10 @@
--- A text is its front, the character and its back, by induction over the front; and its pieces are the front and those of the back.
--- cut_some, cut_none; shorter; begun_none, begun_more, begun_all, begun_wrong. Assumes nothing.
-use Rattle.std.proofs.Common.{◌≡◌, ℕ, suc, ◌+◌, ◌<◌, Bool, true, false, cond, eqb, List, [], ◌∷◌, ◌++◌, length, get_or, Some, None, Option, sym, refl, ap, ◌∙◌, append_assoc, arith}
-use Rattle.command_words.specs.Each.{Each}
-use Rattle.command_words.specs.Numbers.{IsNumber}
-use Rattle.command_words.proofs.Grown.{each_push}
+-- A text is its front, the character and its back, by induction over the front.
+-- cut_some, cut_none; reads_number, reads_none. Assumes nothing.
+use Rattle.std.proofs.Common.{◌≡◌, ℕ, zero, suc, ◌<◌, false, eqb, List, [], ◌∷◌, ◌++◌, length, get_or, Some, None, Option, sym, refl, ap, subst, ◌∙◌, arith}
+use Rattle.command_words.specs.Numbers.{IsNumber, Reads}
 use Rattle.std.specs.List.{AllByRecursion}
 use Rattle.std.proofs.lemmas.Bool.{eq-eqb, ne_eqb}
-use Rattle.sender_words.specs.Pieces.{Writes, after, before, pieces, up_to}
+use Rattle.sender_words.specs.Pieces.{Writes, after, up_to}
 
 -- c stands nowhere in it
 abbrev pub Lacks : ℕ → List ℕ → Type 0
@@ -45,70 +43,17 @@ module _ (c : ℕ) where
   pub cut_none : (bs : List ℕ) → Lacks c bs → (bs ≡ up_to c bs) × (None ≡ after c bs)
   cut_none bs free = (sym (up_to_none bs free), sym (after_none bs free))
 
-module _ (b : ℕ) (bs ps : List ℕ) where
-  step_some : (ys : List ℕ) (rs : List (List ℕ)) (qs : List ℕ → List (List ℕ)) (o : Option (List ℕ)) (t : Bool) → rs ≡ qs bs → (o ≡ Some ys → rs ≡ ps ∷ qs ys) → cond t (Some bs) o ≡ Some ys → cond t ([] ∷ rs) (before b rs) ≡ cond t [] (b ∷ ps) ∷ qs ys
-  step_some ys rs qs o true here more e = let g : bs ≡ ys = cc in ap (λ (z : List (List ℕ)). [] ∷ z) (here ∙ ap qs g)
-  step_some ys rs qs o false here more e = ap (before b) (more e)
+-- a text that is read as a number writes it
+pub reads_number : (text : List ℕ) (n : ℕ) (o : Option ℕ) → o ≡ Some n → Reads text o → Writes text n
+reads_number text n o e r = rw e at r
 
-  step_none : (rs : List (List ℕ)) (o : Option (List ℕ)) (t : Bool) → (o ≡ None → rs ≡ ps ∷ []) → cond t (Some bs) o ≡ None → cond t ([] ∷ rs) (before b rs) ≡ cond t [] (b ∷ ps) ∷ []
-  step_none rs o true more e = let z : ◌≡◌ {A = ℕ} 0 1 = cc in absurd (omega arith)
-  step_none rs o false more e = ap (before b) (more e)
+all_at : {X : Type 0} (P : X → Type 0) (xs : List X) (i : ℕ) (d : X) → i < length xs → AllByRecursion P xs → P (get_or xs i d)
+all_at P [] i d h a = absurd (omega arith)
+all_at P (x ∷ xs) zero d h a = a.0
+all_at P (x ∷ xs) (suc i) d h a = all_at P xs i d (omega arith) a.1
 
-  step_shorter : (ys : List ℕ) (o : Option (List ℕ)) (t : Bool) → (o ≡ Some ys → length ys < length bs) → cond t (Some bs) o ≡ Some ys → length ys < suc (length bs)
-  step_shorter ys o true more e = let k : bs ≡ ys = cc in rw (← k) (omega arith)
-  step_shorter ys o false more e = let k : length ys < length bs = more e in omega arith
-
-module _ (c : ℕ) where
-  pieces_some : (bs ys : List ℕ) → after c bs ≡ Some ys → pieces c bs ≡ up_to c bs ∷ pieces c ys
-  unfolding after pieces up_to
-  pieces_some [] ys e = let z : ◌≡◌ {A = ℕ} 0 1 = cc in absurd (omega arith)
-  pieces_some (b ∷ bs) ys e =
-      step_some b bs (up_to c bs) ys (pieces c bs) (pieces c) (after c bs) (eqb b c) refl (pieces_some bs ys) e
-
-  pieces_none : (bs : List ℕ) → after c bs ≡ None → pieces c bs ≡ up_to c bs ∷ []
-  unfolding after pieces up_to
-  pieces_none [] e = refl
-  pieces_none (b ∷ bs) e = step_none b bs (up_to c bs) (pieces c bs) (after c bs) (eqb b c) (pieces_none bs) e
-
-  pub shorter : (bs ys : List ℕ) → after c bs ≡ Some ys → length ys < length bs
-  unfolding after
-  shorter [] ys e = let z : ◌≡◌ {A = ℕ} 0 1 = cc in absurd (omega arith)
-  shorter (b ∷ bs) ys e = step_shorter b bs bs ys (after c bs) (eqb b c) (shorter bs ys) e
-
--- the numbers of the pieces that stand before what is left
-pub record Begun (text rest : List ℕ) (ns : List ℕ) : Type 0 where
-  pub front : List (List ℕ)
-  pub parts : pieces 44 text ≡ front ++ pieces 44 rest
-  pub each : Each Writes front ns
-
-pub begun_none : (text : List ℕ) → Begun text text []
-unfolding Each
-begun_none text = record { front = []; parts = refl; each = tt }
-
-module _ (text rest ns : List ℕ) (h : Begun text rest ns) where
-  pub begun_more : (next : List ℕ) (n : ℕ) → after 44 rest ≡ Some next → Writes (up_to 44 rest) n → Begun text next (ns ++ (n ∷ []))
-  begun_more next n e w =
-      record {
-        front = h.front ++ (up_to 44 rest ∷ []);
-        parts = h.parts ∙ ap (λ (z : List (List ℕ)). h.front ++ z) (pieces_some 44 rest next e) ∙ sym (append_assoc h.front (up_to 44 rest ∷ []) (pieces 44 next));
-        each = each_push Writes h.front ns (up_to 44 rest) n h.each w;
-      }
-
-  pub begun_all : (n : ℕ) → after 44 rest ≡ None → Writes (up_to 44 rest) n → Each Writes (pieces 44 text) (ns ++ (n ∷ []))
-  begun_all n e w =
-      let k : pieces 44 text ≡ h.front ++ (up_to 44 rest ∷ []) = h.parts ∙ ap (λ (z : List (List ℕ)). h.front ++ z) (pieces_none 44 rest e) in
-      rw k (each_push Writes h.front ns (up_to 44 rest) n h.each w)
-
-all_at : {X : Type 0} (P : X → Type 0) (xs ys : List X) (x : X) → AllByRecursion P (xs ++ (x ∷ ys)) → P x
-all_at P [] ys x a = a.0
-all_at P (z ∷ zs) ys x a = all_at P zs ys x a.1
-
-first_piece : (bs : List ℕ) (o : Option (List ℕ)) → after 44 bs ≡ o → (ps : List (List ℕ)) × (pieces 44 bs ≡ up_to 44 bs ∷ ps)
-first_piece bs None e = ([], pieces_none 44 bs e)
-first_piece bs (Some ys) e = (pieces 44 ys, pieces_some 44 bs ys e)
-
-pub begun_wrong : (text rest ns : List ℕ) → Begun text rest ns → (IsNumber (up_to 44 rest) → ⊥) → AllByRecursion IsNumber (pieces 44 text) → ⊥
-begun_wrong text rest ns h wrong a =
-    let f = first_piece rest (after 44 rest) refl in
-    let k : pieces 44 text ≡ h.front ++ (up_to 44 rest ∷ f.0) = h.parts ∙ ap (λ (z : List (List ℕ)). h.front ++ z) f.1 in
-    wrong (all_at IsNumber h.front f.0 (up_to 44 rest) (rw k at a))
+-- where one of the pieces is read as no number, not all are numbers
+pub reads_none : (text : List ℕ) (ps : List (List ℕ)) (i : ℕ) (o : Option ℕ) → o ≡ None → i < length ps → text ≡ get_or ps i text → Reads text o → AllByRecursion IsNumber ps → ⊥
+reads_none text ps i o e h is r all =
+    let none : IsNumber text → ⊥ = rw e at r in
+    none (subst IsNumber (sym is) (all_at IsNumber ps i text h all))

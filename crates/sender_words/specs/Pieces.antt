@@ -1,10 +1,12 @@
 -- A text cut at a character, and the numbers between its commas.
 -- up_to, after, lent, pieces, Writes, Listed. Assumes nothing.
-use Rattle.std.specs.Prelude.{◌≡◌, ℕ, cond, List, [], ◌∷◌, Some, None, vec_items, Option, Vec, ◌==◌}
+use Rattle.std.specs.Prelude.{◌≡◌, ℕ, cond, List, [], ◌∷◌, Some, None, Ok, Err, vec_items, Option, Result, Vec, ◌==◌}
 use Rattle.std.specs.Borrow.{Bor}
 use Rattle.command_words.specs.Each.{Each}
 use Rattle.command_words.specs.Numbers.{IsNumber, number_of}
-use Rattle.std.specs.List.{AllByRecursion}
+use Rattle.std.specs.List.{AllByRecursion, slice_split}
+use Rattle.sender_words.specs.declared.spoken.Wrong.{Wrong}
+use Rattle.sender_words.specs.declared.spoken.Wrong.TheVariants.{NoSender, NoMessage, Memory}
 use Rattle.std.specs.declared.alloc.Global.{Global}
 
 -- what stands before the first c, or all of a text that has none
@@ -22,20 +24,17 @@ abbrev pub lent : Option (Bor (List ℕ)) → Option (List ℕ)
 lent None = None
 lent (Some x) = Some x.now
 
-abbrev pub before : ℕ → List (List ℕ) → List (List ℕ)
-before b [] = (b ∷ []) ∷ []
-before b (p ∷ ps) = (b ∷ p) ∷ ps
-
 -- what stands between the c's of a text, before the first and after the last: one piece more than there are c's
-unfoldable pub pieces : (c : ℕ) → List ℕ → List (List ℕ)
-pieces c [] = [] ∷ []
-pieces c (b ∷ bs) = cond (b == c) ([] ∷ pieces c bs) (before b (pieces c bs))
+abbrev pub pieces : (c : ℕ) → List ℕ → List (List ℕ)
+pieces c text = slice_split (λ b. b == c) text
 
 -- a text writes this number
 abbrev pub Writes : List ℕ → ℕ → Type 0
 Writes text n = IsNumber text × (number_of text ≡ n)
 
--- the numbers that stand between the commas; none exactly where one of them is no number
-abbrev pub Listed : List ℕ → Option (Vec ℕ Global) → Type 0
-Listed text None = AllByRecursion IsNumber (pieces 44 text) → ⊥
-Listed text (Some v) = Each Writes (pieces 44 text) (vec_items v)
+-- the numbers that stand between the commas; no message exactly where one of them is no number, and want of memory may always be
+abbrev pub Listed : List ℕ → Result (Vec ℕ Global) Wrong → Type 0
+Listed text (Ok v) = Each Writes (pieces 44 text) (vec_items v)
+Listed text (Err NoSender) = ⊥
+Listed text (Err NoMessage) = AllByRecursion IsNumber (pieces 44 text) → ⊥
+Listed text (Err Memory) = Unit {0}

@@ -1,9 +1,10 @@
 // A text cut at a character, and the numbers between its commas.
-ghost use Rattle.std.specs.Prelude.{◌≡◌, ◌<◌, IfOk};
+ghost use Rattle.std.specs.Prelude.{◌≡◌, ◌<◌};
 ghost use Rattle.sender_words.specs.Pieces.{Listed, after, lent, up_to};
 
+use crate::spoken::Wrong;
 use command_words::number;
-use std::alloc::{AllocError, Global};
+use std::alloc::Global;
 
 // What stands before the first such character, and what stands after it, if there is one.
 pub fn cut(text: &str, at: char) -> (&str, Option<&str>)
@@ -17,21 +18,13 @@ pub fn cut(text: &str, at: char) -> (&str, Option<&str>)
     }
 }
 
-// The numbers between the commas of a text; none where one of them is no number.
-pub fn listed(heap: Global, text: &str) -> Result<Option<Vec<u64>>, AllocError>
-    ensures { IfOk result (λ o. Listed text.now o) }
+// The numbers between the commas of a text; `Wrong::NoMessage` where one of them is no number.
+pub fn listed(heap: Global, text: &str) -> Result<Vec<u64>, Wrong>
+    ensures { Listed text.now result }
 {
     let mut numbers = Vec::new(heap);
-    let mut rest = text;
-    loop {
-        let (piece, back) = cut(rest, ',');
-        let Some(n) = number(piece) else {
-            return Ok(None);
-        };
-        numbers.push(n)?;
-        let Some(next) = back else {
-            return Ok(Some(numbers));
-        };
-        rest = next;
+    for piece in text.split(',') {
+        numbers.push(number(piece).ok_or(Wrong::NoMessage)?)?;
     }
+    Ok(numbers)
 }

@@ -6,7 +6,7 @@ ghost use Rattle.std.specs.Prelude.{◌≡◌};
 
 use crate::pieces::{cut, listed};
 use command_words::number;
-use std::alloc::{AllocError, Global};
+use std::alloc::{AllocError, AllocFailed, Global};
 
 // One sender's word: its number, and the message if one is given. As wide as they were written.
 #[derive(Drop)]
@@ -33,16 +33,21 @@ impl From<AllocError> for Wrong {
     }
 }
 
+impl<T: Drop> From<AllocFailed<T>> for Wrong {
+    ghost from_gives = { λ _ r. r ≡ Memory };
+
+    fn from(_e: AllocFailed<T>) -> Wrong {
+        Wrong::Memory
+    }
+}
+
 // The message in what stands after `=`, if anything does.
 fn message_in(heap: Global, list: Option<&str>) -> Result<Option<Vec<u64>>, Wrong>
     ensures { MessageIn (lent list.entry) result }
 {
-    let Some(list) = list else {
-        return Ok(None);
-    };
-    match listed(heap, list)? {
-        None => Err(Wrong::NoMessage),
-        message => Ok(message),
+    match list {
+        Some(list) => Ok(Some(listed(heap, list)?)),
+        None => Ok(None),
     }
 }
 
@@ -51,9 +56,7 @@ pub fn spoken_of(heap: Global, text: &str) -> Result<Spoken, Wrong>
     ensures { Speaks text.now result }
 {
     let (name, list) = cut(text, '=');
-    let Some(number) = number(name) else {
-        return Err(Wrong::NoSender);
-    };
+    let number = number(name).ok_or(Wrong::NoSender)?;
     let message = message_in(heap, list)?;
     Ok(Spoken { number, message })
 }

@@ -10,16 +10,11 @@ use super::Channel;
 use crate::fault::Fault;
 use crate::{inverses, table};
 
-// Whether q is one of these numbers.
-fn is_in(q: u8, numbers: &[u8]) -> bool
-    ensures { result ≡ listed q numbers.now }
+// Whether q is one of the numbers that it may be.
+fn is_side(q: u8) -> bool
+    ensures { result ≡ listed q listed_sides }
 {
-    for number in numbers {
-        if q == *number {
-            return true;
-        }
-    }
-    false
+    table::sides().contains(&q)
 }
 
 // The inverse of a modulo q, looked up in the rows of inverses of these sides.
@@ -30,12 +25,13 @@ fn entry(q: u8, a: u8, sides: &[u8], inverses: &[u8]) -> Option<u8>
     requires below { a < q }
     ensures { MatchOption result ⊥ (λ v. Inverse q a v) }
 {
-    let mut start: usize = 0;
+    let mut rows = inverses;
     for side in sides {
+        let (row, more) = rows.split_at(usize::from(side.saturating_sub(1)));
         if q == *side {
-            return Some(inverses[start + usize::from(a) - 1]);
+            return Some(row[usize::from(a) - 1]);
         }
-        start += usize::from(*side).saturating_sub(1);
+        rows = more;
     }
     None
 }
@@ -54,7 +50,7 @@ fn look_up(q: u8, a: u8) -> Option<u8>
 fn passes(q: u8, d: u8, k: u8) -> bool
     ensures { result ≡ is_valid q d k }
 {
-    is_in(q, table::sides())
+    is_side(q)
         && 0 < d
         && d <= 4
         && d <= q

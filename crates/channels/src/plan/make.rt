@@ -10,6 +10,18 @@ use super::Plan;
 use crate::channel::Channel;
 use crate::fault::Fault;
 
+// Writes the number to the base q, the lowest digit first, with as many digits as there are places.
+fn write_digits(number: u32, q: u8, digits: &mut [u8])
+    requires { 2 < q }
+    ensures { digits.new ≡ digits_of q number (length digits.old) }
+{
+    let mut rest = number;
+    for digit in digits.iter_mut() {
+        *digit = (rest % u32::from(q)) as u8;
+        rest /= u32::from(q);
+    }
+}
+
 // The number with `count` digits to the base q, the lowest first.
 fn written(number: u32, q: u8, count: u8) -> [u8; 4]
     requires base { 2 < q }
@@ -19,11 +31,7 @@ fn written(number: u32, q: u8, count: u8) -> [u8; 4]
     ensures four { length result ≡ 4 }
 {
     let mut digits = [0; 4];
-    let mut rest = number;
-    for i in 0..count {
-        digits[usize::from(i)] = (rest % u32::from(q)) as u8;
-        rest /= u32::from(q);
-    }
+    write_digits(number, q, &mut digits[..usize::from(count)]);
     digits
 }
 
@@ -48,9 +56,8 @@ impl Plan {
     {
         let q = u64::from(self.q);
         let mut value: u32 = 0;
-        for i in (0..self.count).rev() {
-            let digit = self.digits[usize::from(i)];
-            value = ((u64::from(digit) + u64::from(x) * u64::from(value)) % q) as u32;
+        for digit in self.digits[..usize::from(self.count)].iter().rev() {
+            value = ((u64::from(*digit) + u64::from(x) * u64::from(value)) % q) as u32;
         }
         value as u8
     }
@@ -70,6 +77,7 @@ impl Plan {
         ensures count { result ≡ meet self.q (slot_at self.q (plan_in self)) (slot_at other.q (plan_in other)) self.q }
         ensures seldom { (c : StatementChannel) → Good c → self.q ≡ c.q → other.q ≡ c.q → IsPlan c (plan_in self) → IsPlan c (plan_in other) → (plan_in self ≢ plan_in other) → result ≤ c.d - 1 }
     {
+        // Not a chain: its `count` is a `usize`, which would have to be narrowed again.
         let mut count = 0;
         for part in 0..self.q {
             if self.value(part) == other.value(part) {

@@ -1,14 +1,12 @@
-use Rattle.std.proofs.Common.{rules}
-use Rattle.options.proofs.Sorting.{given_here, given_more, given_none}
+use Rattle.std.proofs.Common.{string_bytes, ◌∙◌, rules}
+use Rattle.std.proofs.lemmas.Iterator.{YieldsList-from_slice}
+use Rattle.std.proofs.lemmas.Iterator.Search.{any_from_yields_List}
+use Rattle.std.specs.Str.{bytes_eq}
+use borrow.Author.Tests.{tests}
+use Rattle.options.proofs.Sorting.{given_in}
 use Rattle.options.proofs.is_given.Goals as goal
 
-pub returns-then-eq : goal.returns-then-eq
-returns-then-eq c =
-    given_here c.args.option.now c.args.texts.now c.loop-text.text-index c.text-item.result c.as_str.result.now c.loop-text-test.true c.text-item.is (search rules) (search rules) c.loop-text.invariant
-
-pub loop-text-preserved : goal.loop-text-preserved
-loop-text-preserved c =
-    given_more c.args.option.now c.args.texts.now c.loop-text.text-index c.text-item.result c.as_str.result.now c.loop-text-test.true c.text-item.is (search rules) (search rules) c.loop-text.invariant
-
 pub returns : goal.returns
-returns c = given_none c.args.option.now c.args.texts.now c.loop-text.text-index c.loop-text-test.false c.loop-text.invariant
+returns c =
+    any_from_yields_List (λ s. bytes_eq (string_bytes s) c.args.option.now) _ _ c.any.result c.any.ensures.ran (YieldsList-from_slice c.args.texts.now cc) (λ x b q k. search (rules, tests))
+    ∙ given_in c.args.option.now c.args.texts.now

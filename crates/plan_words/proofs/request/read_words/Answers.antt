@@ -10,4 +10,4 @@ pub loop-i-preserved : goal.loop-i-preserved
 loop-i-preserved c = held_more c.args.words.now c.loop-i.i _ _ _ _ _ c.loop-i-test.true c.in-Some.ensures c.loop-i.invariant
 
 pub returns : goal.returns
-returns c = rw c.ended.ensures (answer_ended c.args.words.now c.loop-i.i c.loop-i.asked.raw c.loop-i.asked.numbers c.loop-i-test.false c.loop-i.invariant)
+returns c = rw c.ended.ensures (answer_ended c.args.words.now c.loop-i.i c.loop-i.asked.raw c.loop-i.asked.numbers.items c.loop-i-test.false c.loop-i.invariant)

@@ -4,4 +4,4 @@ use Rattle.plan_words.proofs.Reading.{Held}
 use Rattle.plan_words.proofs.request.read_words.Given as goal
 
 abbrev pub invariant-loop-i : goal.invariant-loop-i
-invariant-loop-i l = Held l.asked.raw l.asked.numbers (take l.i l.words)
+invariant-loop-i l = Held l.asked.raw l.asked.numbers.items (take l.i l.words)

@@ -1,9 +1,24 @@
-use Rattle.std.proofs.Common.{rules}
-use Rattle.channels.proofs.Digits.{slot_lower, slot_none}
+use Rattle.std.proofs.Common.{◌≡◌, [], ◌∷◌, ◌++◌, ap, ◌∙◌, sym, arith}
+use Rattle.std.proofs.lemmas.List.{append-nil, nil_from_length}
+use Rattle.channels.proofs.Digits.{one_lower}
+use Rattle.speakall.specs.Plan.{slot_at}
+use Rattle.channels.specs.Plans.{plan_in}
 use Rattle.channels.proofs.plan.Plan.value.Goals as goal
 
-pub loop-i-init : goal.loop-i-init
-loop-i-init c = search (rules, slot_none)
+pub loop-digit-init : goal.loop-digit-init
+unfolding slot_at
+loop-digit-init c =
+    let all : plan_in c.args.self ≡ c.into_iter-digit-iterator.result.iter.rest.now = cc in
+    ([], all ∙ sym (append-nil c.into_iter-digit-iterator.result.iter.rest.now), omega arith, cc)
 
-pub loop-i-preserved : goal.loop-i-preserved
-loop-i-preserved c = search (rules, slot_lower)
+pub loop-digit-preserved : goal.loop-digit-preserved
+unfolding slot_at
+loop-digit-preserved c =
+    let higher = c.loop-digit.invariant.0 in
+    (c.in-Some.digit.now ∷ higher, one_lower c.next.new.self.iter.rest.now c.in-Some.digit.now higher c.loop-digit.invariant.1 c.in-Some.ensures.steps, omega arith, cc)
+
+pub returns : goal.returns
+returns c =
+    let none = nil_from_length c.loop-digit.digit-iterator.iter.rest.now c.in-None.ensures.steps.0 in
+    let all : plan_in c.args.self ≡ c.loop-digit.invariant.0 = c.loop-digit.invariant.1 ∙ ap (λ ds. ds ++ c.loop-digit.invariant.0) none in
+    record { is = cc; below = omega arith }

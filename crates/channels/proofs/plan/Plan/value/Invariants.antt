@@ -1,8 +1,9 @@
-use Rattle.std.proofs.Common.{◌≡◌, ◌<◌, drop}
+use Rattle.std.proofs.Common.{◌≡◌, ℕ, ◌<◌, List, ◌++◌}
 use Rattle.speakall.specs.Plan.{slot_at}
 use Rattle.channels.specs.Plans.{plan_in}
 use Rattle.channels.proofs.plan.Plan.value.Given as goal
 
--- the value of the digits gone through, which are the highest
-abbrev pub invariant-loop-i : goal.invariant-loop-i
-invariant-loop-i l = (l.value < l.self.q) × (l.value ≡ slot_at l.self.q (drop l.i (plan_in l.self)) l.x)
+-- the lower digits are left, and the value is that of the higher ones
+abbrev pub invariant-loop-digit : goal.invariant-loop-digit
+invariant-loop-digit l =
+    (higher : List ℕ) × (plan_in l.fn.self ≡ l.digit-iterator.iter.rest.now ++ higher) × (l.value < l.fn.self.q) × (l.value ≡ slot_at l.fn.self.q higher l.x)

@@ -1,5 +1,5 @@
 -- What is written has the sizes that the channel tells.
-use Rattle.plan_words.proofs.line.LineDisplay.fmt.Goals as goal
+use Rattle.command_words.proofs.line.LineDisplay.fmt.Goals as goal
 
 pub returns-clause-writes : goal.returns-clause-writes
 returns-clause-writes g c =

@@ -1,3 +1,0 @@
--- Lemmas of the speakers that the words ask for.
-pub mod Mapped
-pub mod Said

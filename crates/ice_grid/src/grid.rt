@@ -1,6 +1,6 @@
 // The grid of a frame: a row for each slot's number, in it a sign for each part.
 // A label of three places stands before each row, and a space before each sign.
-ghost use Rattle.ice_grid.specs.Marks.{blanks_of, digit_of, digits_to, header_of, headers_of, lines_in, row_of, signs_of};
+ghost use Rattle.ice_grid.specs.Marks.{blanks_of, digit_of, digits_to, headers_of, lines_in, row_of, signs_of};
 ghost use Rattle.std.specs.Prelude.{◌≡◌, ◌++◌, IfOk, string_bytes, codes, decimal, OnOk};
 ghost use Rattle.std.proofs.Math.Utf8.{encode};
 
@@ -12,19 +12,6 @@ use std::alloc::{AllocError, Global};
 pub const SIGNS: &str =
     "    .  silence    #  two or more    a letter  that sender alone (? past the 52nd)";
 
-// The blanks that bring a number below 1000 to three places.
-fn blanks(y: u8) -> &'static str
-    ensures { result.now ≡ blanks_of y }
-{
-    if y < 10 {
-        "  "
-    } else if y < 100 {
-        " "
-    } else {
-        ""
-    }
-}
-
 // The digit of a part's number at a place, 100, 10 or 1; a blank for a zero before the first digit.
 fn digit(part: u8, place: u8) -> char
     ensures { result ≡ digit_of part place }
@@ -32,7 +19,7 @@ fn digit(part: u8, place: u8) -> char
     if place == 0 || place > 1 && part < place {
         return ' ';
     }
-    (b'0' + part / place % 10) as char
+    char::from(b'0' + part / place % 10)
 }
 
 // A sign more, after a space.
@@ -55,24 +42,16 @@ fn header(heap: Global, q: u8, place: u8) -> Result<String, AllocError>
     Ok(text)
 }
 
-// One line more, unless the parts' numbers are too short for the place.
-fn add_header(heap: Global, q: u8, place: u8, lines: &mut Vec<String>) -> Result<(), AllocError>
-    ensures { OnOk result (lines_in lines.new.items ≡ lines_in lines.old.items ++ header_of q place) }
-{
-    if place < q {
-        lines.push(header(heap, q, place)?)?;
-    }
-    Ok(())
-}
-
 // The numbers of the q parts, over their signs: a line for each place of the highest.
 pub fn headers(heap: Global, q: u8) -> Result<Vec<String>, AllocError>
     ensures { IfOk result (λ v. lines_in v.items ≡ headers_of q) }
 {
     let mut lines = Vec::new(heap);
-    add_header(heap, q, 100, &mut lines)?;
-    add_header(heap, q, 10, &mut lines)?;
-    add_header(heap, q, 1, &mut lines)?;
+    for place in [100, 10, 1] {
+        if place < q {
+            lines.push(header(heap, q, place)?)?;
+        }
+    }
     Ok(lines)
 }
 
@@ -80,19 +59,17 @@ pub fn headers(heap: Global, q: u8) -> Result<Vec<String>, AllocError>
 fn label(heap: Global, y: u8) -> Result<String, AllocError>
     ensures { IfOk result (λ s. string_bytes s ≡ blanks_of y ++ decimal y) }
 {
-    let blanks = blanks(y);
-    format!(in heap; "{blanks}{y}")
+    format!(in heap; "{y:3}")
 }
 
 // The signs of slot y in all parts; none where the frame has no such slot.
 fn put_signs(text: &mut String, frame: &Frame, numbers: &[u32], y: u8) -> Result<(), AllocError>
     ensures { OnOk result (string_bytes text.new ≡ string_bytes text.old ++ signs_of frame.now.channel.q frame.now.slots.items numbers.now y) }
 {
-    for part in 0..u8::MAX {
-        let Some(slot) = frame.slot(part, y) else {
-            return Ok(());
-        };
-        put(text, mark(slot, numbers))?;
+    for part in 0..frame.channel().parts() {
+        if let Some(slot) = frame.slot(part, y) {
+            put(text, mark(slot, numbers))?;
+        }
     }
     Ok(())
 }

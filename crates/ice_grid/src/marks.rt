@@ -11,9 +11,9 @@ const LETTERS: [u8; 52] = *b"abcdefghijklmnopqrstuvwxyzABCDEFGHIJKLMNOPQRSTUVWXY
 pub fn letter(number: u32, numbers: &[u32]) -> char
     ensures { result ≡ letter_of number numbers.now letters }
 {
-    for i in 0..numbers.len().min(52) {
-        if numbers[i] == number {
-            return LETTERS[i] as char;
+    for (other, letter) in numbers.iter().zip(&LETTERS) {
+        if *other == number {
+            return char::from(*letter);
         }
     }
     '?'

@@ -1,8 +1,8 @@
 -- The highest count: what is left decides, and once the limit is reached nothing left can change it.
 -- With, with_none, with_more, with_done, with_all; Most, most_none, most_more, most_all. Assumes nothing.
-use Rattle.std.proofs.Common.{◌≡◌, ℕ, ◌+◌, ◌-◌, ◌<◌, ◌≤◌, min, max, List, [], ◌∷◌, ◌++◌, map, length, get_or, take, drop, refl, ap, ◌∙◌, arith}
+use Rattle.std.proofs.Common.{◌≡◌, ℕ, ◌+◌, ◌<◌, ◌≤◌, min, max, List, [], ◌∷◌, ◌++◌, map, length, get_or, drop, refl, ap, ◌∙◌, arith}
 use Rattle.speakall.specs.Plan.{Channel}
-use Rattle.std.proofs.lemmas.List.{at_drop_more, at_drop_all, take_rest}
+use Rattle.std.proofs.lemmas.List.{at_drop_more, at_drop_all}
 use Rattle.ice_meetings.specs.Meets.{counts_of, meets_in, most_of}
 
 module _ (limit : ℕ) where
@@ -57,33 +57,25 @@ module _ (limit : ℕ) (f : ℕ → ℕ) (xs : List ℕ) (most : ℕ) where
       (k, omega arith)
 
 module _ (limit : ℕ) (c : Channel) (ns : List ℕ) where
-  pub record Most (i top : ℕ) : Type 0 where
+  -- the highest so far, and of what is left
+  pub record Most (ms : List ℕ) (top : ℕ) : Type 0 where
     pub low : top ≤ limit
-    pub left : max top (most_of limit (counts_of c (drop i ns))) ≡ most_of limit (counts_of c ns)
+    pub left : max top (most_of limit (counts_of c ms)) ≡ most_of limit (counts_of c ns)
 
-  pub most_none : Most 0 0
+  pub most_none : Most ns 0
   most_none = record { low = omega arith; left = omega arith }
 
-  counts_first : (n : ℕ) (ms : List ℕ) → counts_of c (n ∷ ms) ≡ map (meets_in c n) ms ++ counts_of c ms
+  pub most_more : (ms : List ℕ) (n : ℕ) (os : List ℕ) (top t : ℕ) → ms ≡ n ∷ os → (t ≤ limit) × (t ≡ max top (most_of limit (map (meets_in c n) os))) → Most ms top → Most os t
   unfolding counts_of
-  counts_first n ms = refl
-
-  no_counts : counts_of c [] ≡ []
-  unfolding counts_of
-  no_counts = refl
-
-  pub most_more : (i top t : ℕ) → i < length ns → (t ≤ limit) × (t ≡ max top (most_of limit (map (meets_in c (get_or ns i 0)) (take (length ns - (i + 1)) (drop (i + 1) ns))))) → Most i top → Most (i + 1) t
-  most_more i top t h e so =
+  most_more ms n os top t m e so =
       let l = so.left in
-      let r : take (length ns - (i + 1)) (drop (i + 1) ns) ≡ drop (i + 1) ns = take_rest ns (i + 1) in
-      let m : most_of limit (counts_of c (drop i ns)) ≡ most_of limit (counts_of c (get_or ns i 0 ∷ drop (i + 1) ns)) = at_drop_more (λ ys. most_of limit (counts_of c ys)) ns i 0 h in
-      let n : most_of limit (counts_of c (get_or ns i 0 ∷ drop (i + 1) ns)) ≡ max (most_of limit (map (meets_in c (get_or ns i 0)) (drop (i + 1) ns))) (most_of limit (counts_of c (drop (i + 1) ns))) = ap (most_of limit) (counts_first (get_or ns i 0) (drop (i + 1) ns)) ∙ most_append limit (map (meets_in c (get_or ns i 0)) (drop (i + 1) ns)) (counts_of c (drop (i + 1) ns)) in
-      let q : t ≡ max top (most_of limit (map (meets_in c (get_or ns i 0)) (drop (i + 1) ns))) = e.1 ∙ ap (λ (z : List ℕ). max top (most_of limit (map (meets_in c (get_or ns i 0)) z))) r in
+      let k : most_of limit (counts_of c ms) ≡ max (most_of limit (map (meets_in c n) os)) (most_of limit (counts_of c os)) = ap (λ (z : List ℕ). most_of limit (counts_of c z)) m ∙ most_append limit (map (meets_in c n) os) (counts_of c os) in
+      let q = e.1 in
       record { low = e.0; left = omega arith }
 
-  pub most_all : (i top : ℕ) → length ns ≤ i → Most i top → top ≡ most_of limit (counts_of c ns)
-  most_all i top h so =
+  pub most_all : (ms : List ℕ) (top : ℕ) → ms ≡ [] → Most ms top → top ≡ most_of limit (counts_of c ns)
+  unfolding counts_of most_of
+  most_all ms top m so =
       let l = so.left in
-      let n : most_of limit (counts_of c (drop i ns)) ≡ most_of limit (counts_of c []) = at_drop_all (λ ys. most_of limit (counts_of c ys)) ns i h in
-      let z : most_of limit (counts_of c []) ≡ 0 = ap (most_of limit) no_counts ∙ no_most limit in
+      let n : most_of limit (counts_of c ms) ≡ 0 = ap (λ (z : List ℕ). most_of limit (counts_of c z)) m in
       omega arith

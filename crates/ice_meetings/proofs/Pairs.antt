@@ -1,8 +1,8 @@
 -- Lines that are made one after the other: those of one sender with each of the others, and so of every two.
 -- pair_line, line_push; with_lines_none, with_lines_more, with_lines_all; two_more, two_all; few, many. Assumes nothing.
-use Rattle.std.proofs.Common.{◌≡◌, ℕ, ◌+◌, ◌-◌, ◌<◌, ◌≤◌, List, [], ◌∷◌, ◌++◌, map, length, get_or, take, drop, string_bytes, String, sym, refl, ap, ◌∙◌, append_assoc}
+use Rattle.std.proofs.Common.{◌≡◌, ℕ, ◌+◌, ◌-◌, ◌<◌, ◌≤◌, List, [], ◌∷◌, ◌++◌, map, length, get_or, take, string_bytes, String, sym, ap, ◌∙◌, append_assoc}
 use Rattle.speakall.specs.Plan.{Channel}
-use Rattle.std.proofs.lemmas.List.{append-nil, at_drop_more, at_drop_all, map_more, map_push, take_all, take_rest}
+use Rattle.std.proofs.lemmas.List.{append-nil, map_more, map_push, take_all}
 use Rattle.std.proofs.lemmas.Bool.{le-leb, lt-leb}
 use Rattle.std.specs.declared.alloc.Global.{Global}
 use Rattle.ice_meetings.specs.declared.meeting.Meeting.{Meeting}
@@ -26,23 +26,15 @@ module _ (g : ℕ → List ℕ) (xs : List ℕ) (had : List (List ℕ)) where
   with_lines_all i ls h so = so ∙ ap (λ (z : List ℕ). had ++ map g z) (take_all i xs h)
 
 module _ (c : Channel) (ns : List ℕ) where
-  two_first : (n : ℕ) (ms : List ℕ) → every_two c (n ∷ ms) ≡ map (pair_text c n) ms ++ every_two c ms
+  -- the lines of the first, and of every two of the others
+  pub two_more : (ms : List ℕ) (n : ℕ) (os : List ℕ) (ls us : List (List ℕ)) → ms ≡ n ∷ os → us ≡ ls ++ map (pair_text c n) os → ls ++ every_two c ms ≡ every_two c ns → us ++ every_two c os ≡ every_two c ns
   unfolding every_two
-  two_first n ms = refl
+  two_more ms n os ls us m e so =
+      ap (λ (z : List (List ℕ)). z ++ every_two c os) e ∙ append_assoc ls (map (pair_text c n) os) (every_two c os) ∙ ap (λ (z : List ℕ). ls ++ every_two c z) (sym m) ∙ so
 
-  no_two : every_two c [] ≡ []
+  pub two_all : (ms : List ℕ) (ls : List (List ℕ)) → ms ≡ [] → ls ++ every_two c ms ≡ every_two c ns → ls ≡ every_two c ns
   unfolding every_two
-  no_two = refl
-
-  pub two_more : (i : ℕ) (ls us : List (List ℕ)) → i < length ns → us ≡ ls ++ map (pair_text c (get_or ns i 0)) (take (length ns - (i + 1)) (drop (i + 1) ns)) → ls ++ every_two c (drop i ns) ≡ every_two c ns → us ++ every_two c (drop (i + 1) ns) ≡ every_two c ns
-  two_more i ls us h e so =
-      let r : take (length ns - (i + 1)) (drop (i + 1) ns) ≡ drop (i + 1) ns = take_rest ns (i + 1) in
-      let m : every_two c (drop i ns) ≡ every_two c (get_or ns i 0 ∷ drop (i + 1) ns) = at_drop_more (every_two c) ns i 0 h in
-      let k : us ≡ ls ++ map (pair_text c (get_or ns i 0)) (drop (i + 1) ns) = e ∙ ap (λ (z : List ℕ). ls ++ map (pair_text c (get_or ns i 0)) z) r in
-      ap (λ (z : List (List ℕ)). z ++ every_two c (drop (i + 1) ns)) k ∙ append_assoc ls (map (pair_text c (get_or ns i 0)) (drop (i + 1) ns)) (every_two c (drop (i + 1) ns)) ∙ ap (λ (z : List (List ℕ)). ls ++ z) (sym (m ∙ two_first (get_or ns i 0) (drop (i + 1) ns))) ∙ so
-
-  pub two_all : (i : ℕ) (ls : List (List ℕ)) → length ns ≤ i → ls ++ every_two c (drop i ns) ≡ every_two c ns → ls ≡ every_two c ns
-  two_all i ls h so = sym (append-nil ls) ∙ ap (λ (z : List (List ℕ)). ls ++ z) (sym (at_drop_all (every_two c) ns i h ∙ no_two)) ∙ so
+  two_all ms ls m so = sym (append-nil ls) ∙ ap (λ (z : List ℕ). ls ++ every_two c z) (sym m) ∙ so
 
   pub few : (ls : List (List ℕ)) → length ns ≤ 12 → ls ≡ every_two c ns → ls ≡ few_or_most c ns
   unfolding few_or_most

@@ -38,8 +38,10 @@ fn most(channel: Channel, numbers: &[u32], limit: u8) -> Result<u8, Fault>
     ensures { IfOk result (λ m. m ≡ most_of limit (counts_of (settings channel) numbers.now)) }
 {
     let mut top = 0;
-    for i in 0..numbers.len() {
-        top = most_with(channel, numbers[i], &numbers[i + 1..], limit, top)?;
+    let mut left = numbers;
+    while let [number, others @ ..] = left {
+        top = most_with(channel, *number, others, limit, top)?;
+        left = others;
     }
     Ok(top)
 }
@@ -73,8 +75,10 @@ fn every_two(heap: Global, channel: Channel, numbers: &[u32]) -> Result<Vec<Stri
     ensures { IfOk result (λ v. lines_in v.items ≡ every_two (settings channel) numbers.now) }
 {
     let mut lines = Vec::new(heap);
-    for i in 0..numbers.len() {
-        meet_with(heap, channel, numbers[i], &numbers[i + 1..], &mut lines)?;
+    let mut left = numbers;
+    while let [number, others @ ..] = left {
+        meet_with(heap, channel, *number, others, &mut lines)?;
+        left = others;
     }
     Ok(lines)
 }

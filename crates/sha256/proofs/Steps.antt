@@ -1,9 +1,18 @@
 -- One step of each loop: a word of the schedule, a round, a word written as bytes.
--- schedule_none, schedule_more, schedule_all, rounds_none, rounds_more, bytes_none, bytes_more, bytes_all. Assumes nothing.
-use Rattle.std.proofs.Common.{◌≡◌, ℕ, ◌+◌, ◌*◌, ◌<◌, ◌≤◌, List, [], ◌∷◌, ◌++◌, length, get_or, take, set, sym, refl, ap, ◌∙◌, add-one, arith}
-use Rattle.std.proofs.lemmas.List.{append_assoc, get_or-take, take_all, take_more_set, length-set}
+-- schedule_none, schedule_more, schedule_all, round_of, all_rounds, bytes_made, sums_made, from_fn_items. Assumes nothing.
+use Rattle.std.proofs.Common.{◌≡◌, ℕ, zero, suc, ◌+◌, ◌<◌, ◌≤◌, List, [], ◌∷◌, ◌++◌, length, get_or, take, set, sym, refl, ap, subst, ◌∙◌, add-one, arith}
+use Rattle.std.proofs.lemmas.List.{get_or-take, take_all, take_more_set}
+use Rattle.std.specs.Fn.{Called}
+use Rattle.std.specs.Array.{IsFromFnResultFrom}
+use denote.Param.Members.{Mut}
+use Rattle.std.specs.List.{flat_map, fold, zip}
+use Rattle.std.proofs.Math.Seq.{take-suc}
+use Rattle.std.proofs.lemmas.List.Sums.{fold-append}
+use Rattle.std.proofs.lemmas.Slice.Zip.{length-zip, get_or-zip}
+use Rattle.std.proofs.lemmas.List.FromFn.{fill_by_all}
 use Rattle.sha256.specs.Constants.{constants}
-use Rattle.sha256.specs.Hash.{next_word, schedule, round_on, rounds, word_bytes, bytes_of}
+use Rattle.sha256.specs.Functions.{add}
+use Rattle.sha256.specs.Hash.{sums, next_word, schedule, round_on, rounds, word_bytes, bytes_of}
 
 pub schedule_none : (m : List ℕ) → m ≡ schedule m 0
 unfolding schedule
@@ -25,41 +34,44 @@ schedule_more m w n l h e =
 pub schedule_all : (m w : List ℕ) (n : ℕ) → take (n + 16) w ≡ schedule m n → length w ≡ 64 → 48 ≤ n → n ≤ 48 → w ≡ schedule m 48
 schedule_all m w n e l g h = sym (take_all (n + 16) w (omega arith)) ∙ e ∙ ap (schedule m) (omega arith)
 
-pub rounds_none : (w s : List ℕ) → s ≡ rounds w s 0
+-- a round, of the constant and the word that stand beside each other
+abbrev pub round_of : List ℕ → ℕ × ℕ → List ℕ
+round_of s p = round_on s p.0 p.1
+
+some_rounds : (w s : List ℕ) (n : ℕ) → length w ≡ 64 → n ≤ 64 → fold round_of s (take n (zip constants w)) ≡ rounds w s n
 unfolding rounds
-rounds_none w s = refl
+some_rounds w s zero l h = refl
+some_rounds w s (suc n) l h =
+    let k = length-zip constants w in
+    let e = take-suc (zip constants w) n (0, 0) (omega arith) in
+    let g = get_or-zip constants w n (0, 0) (omega arith) (omega arith) in
+    ap (fold round_of s) e ∙ fold-append round_of s (take n (zip constants w)) (get_or (zip constants w) n (0, 0) ∷ []) ∙ ap (λ p. round_of (fold round_of s (take n (zip constants w))) p) g
+    ∙ ap (λ t. round_on t (get_or constants n 0) (get_or w n 0)) (some_rounds w s n l (omega arith))
 
-pub rounds_more : (w s t : List ℕ) (i : ℕ) → t ≡ rounds w s i → round_on t (get_or constants i 0) (get_or w i 0) ≡ rounds w s (i + 1)
-unfolding rounds
-rounds_more w s t i e = rw (add-one i, e)
+pub all_rounds : (w s : List ℕ) → length w ≡ 64 → fold round_of s (zip constants w) ≡ rounds w s 64
+all_rounds w s l =
+    let k = length-zip constants w in
+    ap (fold round_of s) (sym (take_all 64 (zip constants w) (omega arith))) ∙ some_rounds w s 64 l (omega arith)
 
-pub bytes_none : (s bs : List ℕ) → take (4 * 0) bs ≡ bytes_of s 0
+pub bytes_made : (s : List ℕ) (bs : List (List ℕ)) → length bs ≡ 8 → ((k : ℕ) → k < 8 → get_or bs k [] ≡ word_bytes (get_or s k 0)) → flat_map (λ b. b) bs ≡ bytes_of s 8
 unfolding bytes_of
-bytes_none s bs = refl
+bytes_made s bs l h = ap (flat_map (λ b. b)) (fill_by_all (λ (k : ℕ). word_bytes (get_or s k 0)) bs 8 [] l h)
 
--- four bytes more
-four_more : (bs : List ℕ) (n a b c d : ℕ) → n + 3 < length bs → take (n + 4) (set (set (set (set bs n a) (n + 1) b) (n + 2) c) (n + 3) d) ≡ take n bs ++ (a ∷ b ∷ c ∷ d ∷ [])
-four_more bs n a b c d h =
-    let x1 : List ℕ = set bs n a in
-    let x2 : List ℕ = set x1 (n + 1) b in
-    let x3 : List ℕ = set x2 (n + 2) c in
-    let l1 = length-set bs n a in
-    let l2 = length-set x1 (n + 1) b in
-    let l3 = length-set x2 (n + 2) c in
-    let t1 = take_more_set bs n a (omega arith) in
-    let t2 : take (n + 2) x2 ≡ take (n + 1) x1 ++ (b ∷ []) = ap (λ (m : ℕ). take m x2) (omega arith) ∙ take_more_set x1 (n + 1) b (omega arith) in
-    let t3 : take (n + 3) x3 ≡ take (n + 2) x2 ++ (c ∷ []) = ap (λ (m : ℕ). take m x3) (omega arith) ∙ take_more_set x2 (n + 2) c (omega arith) in
-    let t4 : take (n + 4) (set x3 (n + 3) d) ≡ take (n + 3) x3 ++ (d ∷ []) = ap (λ (m : ℕ). take m (set x3 (n + 3) d)) (omega arith) ∙ take_more_set x3 (n + 3) d (omega arith) in
-    rw (t4, t3, t2, t1) (simp append_assoc)
+pub sums_made : (s t r : List ℕ) → length r ≡ 8 → ((k : ℕ) → k < 8 → get_or r k 0 ≡ add (get_or s k 0) (get_or t k 0)) → r ≡ sums s t
+sums_made s t r l h = fill_by_all (λ (k : ℕ). add (get_or s k 0) (get_or t k 0)) r 8 0 l h
 
-pub bytes_more : (s bs : List ℕ) (i a b c d : ℕ) → take (4 * i) bs ≡ bytes_of s i → length bs ≡ 32 → i < 8 → a ∷ b ∷ c ∷ d ∷ [] ≡ word_bytes (get_or s i 0) →
-    take (4 * (i + 1)) (set (set (set (set bs (4 * i) a) (4 * i + 1) b) (4 * i + 2) c) (4 * i + 3) d) ≡ bytes_of s (i + 1)
-unfolding bytes_of
-bytes_more s bs i a b c d e l h w =
-    let k : 4 * (i + 1) ≡ 4 * i + 4 = omega arith in
-    let n : bytes_of s (i + 1) ≡ bytes_of s i ++ word_bytes (get_or s i 0) = ap (bytes_of s) (add-one i) in
-    ap (λ (m : ℕ). take m (set (set (set (set bs (4 * i) a) (4 * i + 1) b) (4 * i + 2) c) (4 * i + 3) d)) k ∙ four_more bs (4 * i) a b c d (omega arith)
-    ∙ ap (λ xs. xs ++ (a ∷ b ∷ c ∷ d ∷ [])) e ∙ ap (λ xs. bytes_of s i ++ xs) w ∙ sym n
+-- what an array of a function's results holds, where the calls leave the function as it was
+module _ {F B : Type 0} (g : Mut F (ℕ × Unit {0}) B) (h : ℕ → B) (f : F) (same : (i : ℕ) (y : B) (q : F) → Called g f (i, tt) y q → (q ≡ f) × (y ≡ h i)) (ys : List B) (d : B) where
+  items_from : (i n : ℕ) (p : F) → p ≡ f → IsFromFnResultFrom g p ys i n → (k : ℕ) → k < n → get_or ys (i + k) d ≡ h (i + k)
+  items_from i zero p e r k l = absurd (omega arith)
+  items_from i (suc n) p e r zero l =
+      let s = same i r.1 r.0 (subst (λ (o : F). Called g o (i, tt) r.1 r.0) e r.3) in
+      let z : i + 0 ≡ i = omega arith in
+      rw z (r.2.1 d ∙ s.1)
+  items_from i (suc n) p e r (suc k) l =
+      let s = same i r.1 r.0 (subst (λ (o : F). Called g o (i, tt) r.1 r.0) e r.3) in
+      let j : i + suc k ≡ i + 1 + k = omega arith in
+      rw j (items_from (i + 1) n r.0 s.0 r.4 k (omega arith))
 
-pub bytes_all : (s bs : List ℕ) (i : ℕ) → take (4 * i) bs ≡ bytes_of s i → length bs ≡ 32 → 8 ≤ i → i ≤ 8 → bs ≡ bytes_of s 8
-bytes_all s bs i e l g h = sym (take_all (4 * i) bs (omega arith)) ∙ e ∙ ap (bytes_of s) (omega arith)
+  pub from_fn_items : (n : ℕ) → IsFromFnResultFrom g f ys 0 n → (k : ℕ) → k < n → get_or ys k d ≡ h k
+  from_fn_items n r k l = let e : 0 + k ≡ k = omega arith in rw (← e) (items_from 0 n f refl r k l)

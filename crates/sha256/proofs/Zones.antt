@@ -1,7 +1,8 @@
 -- A padded message by zones: its own bytes, the byte 128, zeros, the length; and its words and blocks, one after the other.
--- padding-first, padding-zero, padding_field, padded-first, padded_second, padded_rest, words_none, words_more, blocks_none, blocks_more, digest_blocks. Assumes nothing.
-use Rattle.std.proofs.Common.{◌≡◌, ℕ, suc, ◌+◌, ◌-◌, ◌*◌, ◌/◌, ◌<◌, ◌≤◌, List, [], ◌∷◌, ◌++◌, length, get_or, take, set, replicate, sym, refl, ap, ◌∙◌, add-one, arith}
-use Rattle.std.proofs.lemmas.List.{get_or_append_left, get_or-append_right, get_or-replicate, length-append, length-replicate, take_more_set}
+-- padding-first, padding-zero, padding_field, padded_first, padded_rest, words_made, blocks_none, blocks_more, digest_blocks. Assumes nothing.
+use Rattle.std.proofs.Common.{◌≡◌, ℕ, suc, ◌+◌, ◌-◌, ◌*◌, ◌/◌, ◌<◌, ◌≤◌, List, ◌∷◌, ◌++◌, length, get_or, replicate, sym, refl, ap, ◌∙◌, add-one, arith}
+use Rattle.std.proofs.lemmas.List.{get_or_append_left, get_or-append_right, get_or-replicate, length-append, length-replicate}
+use Rattle.std.proofs.lemmas.List.FromFn.{fill_by_all}
 use Rattle.sha256.specs.Constants.{initial}
 use Rattle.sha256.specs.Padding.{zeros, length_field, padding, padded, word_at, words_from}
 use Rattle.sha256.specs.Hash.{compressed, blocks_done, bytes_of, digest}
@@ -32,17 +33,9 @@ padding_field n i h =
     let e : i - (zeros n + 1) ≡ i - zeros n - 1 = omega arith in
     sym (get_or-append_right (front n) (length_field (8 * n)) (zeros n + 1) i 0 (length_front n) (omega arith) ∙ ap (λ (j : ℕ). get_or (length_field (8 * n)) j 0) e)
 
-pub padded-first : (a b : List ℕ) (i : ℕ) → i < length a → get_or a i 0 ≡ get_or (padded (a ++ b)) i 0
+pub padded_first : (m : List ℕ) (i : ℕ) → i < length m → get_or m i 0 ≡ get_or (padded m) i 0
 unfolding padded
-padded-first a b i h =
-    let l = length-append a b in
-    sym (get_or_append_left (a ++ b) (padding (length (a ++ b))) 0 i (omega arith) ∙ get_or_append_left a b 0 i h)
-
-pub padded_second : (a b : List ℕ) (i : ℕ) → length a ≤ i → i < length a + length b → get_or b (i - length a) 0 ≡ get_or (padded (a ++ b)) i 0
-unfolding padded
-padded_second a b i g h =
-    let l = length-append a b in
-    sym (get_or_append_left (a ++ b) (padding (length (a ++ b))) 0 i (omega arith) ∙ get_or-append_right a b (length a) i 0 refl g)
+padded_first m i h = sym (get_or_append_left m (padding (length m)) 0 i h)
 
 pub padded_rest : (a b : List ℕ) (i : ℕ) → length a + length b ≤ i → get_or (padding (length a + length b)) (i - (length a + length b)) 0 ≡ get_or (padded (a ++ b)) i 0
 unfolding padded
@@ -50,14 +43,9 @@ padded_rest a b i h =
     let l = length-append a b in
     sym (get_or-append_right (a ++ b) (padding (length (a ++ b))) (length a + length b) i 0 l h ∙ ap (λ (n : ℕ). get_or (padding n) (i - (length a + length b)) 0) l)
 
-pub words_none : (bs : List ℕ) (from : ℕ) → [] ≡ words_from bs from 0
+pub words_made : (bs ws : List ℕ) (from : ℕ) → length ws ≡ 16 → ((k : ℕ) → k < 16 → get_or ws k 0 ≡ word_at bs (from + k)) → ws ≡ words_from bs from 16
 unfolding words_from
-words_none bs from = refl
-
-pub words_more : (bs w : List ℕ) (from j : ℕ) → j < length w → take j w ≡ words_from bs from j → take (j + 1) (set w j (word_at bs (from + j))) ≡ words_from bs from (j + 1)
-unfolding words_from
-words_more bs w from j h e =
-    take_more_set w j (word_at bs (from + j)) h ∙ ap (λ ws. ws ++ (word_at bs (from + j) ∷ [])) e ∙ ap (words_from bs from) (sym (add-one j))
+words_made bs ws from l h = fill_by_all (λ (k : ℕ). word_at bs (from + k)) ws 16 0 l h
 
 pub blocks_none : (bs : List ℕ) → initial ≡ blocks_done bs 0
 unfolding blocks_done

@@ -4,3 +4,4 @@ pub mod Functions
 pub mod Padding
 pub mod Hash
 pub mod Known
+pub mod Message

@@ -2,14 +2,18 @@
 // All of them go through the same compression of a block, and none of them allocates.
 #![tactic(auto)]
 
-ghost use Rattle.std.specs.Prelude.{◌≡◌, ◌+◌, ◌/◌, ◌^◌, ◌<◌, ◌++◌, length, take};
+ghost use Rattle.std.specs.Prelude.{◌≡◌, ◌+◌, ◌^◌, ◌<◌, ◌++◌, length, take};
 ghost use Rattle.sha256.specs.Hash.{blocks_done, bytes_of, digest as digest_of, word_bytes};
 ghost use Rattle.sha256.specs.Known.{Known};
+ghost use Rattle.sha256.specs.Message.{bytes, block_count};
 ghost use Rattle.sha256.specs.Padding.{padded};
 
 mod constants;
+mod message;
 mod padding;
 mod rounds;
+
+use message::Message;
 
 // As many bytes as no message has.
 const TOO_MANY: usize = 1 << 63;
@@ -19,42 +23,35 @@ fn to_bytes(hash: [u32; 8]) -> [u8; 32]
     ensures { result ≡ bytes_of hash 8 }
 {
     let mut bytes = [0; 32];
-    for i in 0..8 {
-        let [a, b, c, d] = hash[i].to_be_bytes();
-        bytes[4 * i] = a;
-        bytes[4 * i + 1] = b;
-        bytes[4 * i + 2] = c;
-        bytes[4 * i + 3] = d;
-    }
+    bytes.copy_from_slice(hash.map(u32::to_be_bytes).as_flattened());
     bytes
 }
 
-// The hash value after all blocks of `a` and then `b`.
-fn hash(a: &[u8], b: &[u8]) -> [u32; 8]
-    requires { length a.now + length b.now < 2 ^ 63 }
-    ensures { result ≡ blocks_done (padded (a.now ++ b.now)) ((length a.now + length b.now + 8) / 64 + 1) }
+// The hash value after all blocks of a message.
+fn hash(message: &Message) -> [u32; 8]
+    ensures { result ≡ blocks_done (padded (bytes message.now)) (block_count message.now) }
 {
     let mut hash = constants::initial_hash();
-    for n in 0..padding::block_count(a.len() + b.len()) {
-        let next = rounds::compress(hash, padding::block_words(a, b, n));
+    // A loop: in a chain the closure would need a clause of its own, that n is below the count of the blocks.
+    for n in 0..padding::block_count(message) {
+        let next = rounds::compress(hash, padding::block_words(message, n));
         hash = next;
     }
     hash
 }
 
-// The digest of `a` and then `b`.
-fn digest(a: &[u8], b: &[u8]) -> [u8; 32]
-    requires { length a.now + length b.now < 2 ^ 63 }
-    ensures { result ≡ digest_of (a.now ++ b.now) }
+// The digest of a message.
+fn digest(message: &Message) -> [u8; 32]
+    ensures { result ≡ digest_of (bytes message.now) }
 {
-    to_bytes(hash(a, b))
+    to_bytes(hash(message))
 }
 
 // The digest of a message.
 pub fn sha256(bytes: &[u8]) -> [u8; 32]
     ensures { result ≡ digest_of bytes.now }
 {
-    digest(bytes, &[])
+    digest(&Message::new(bytes, &[]))
 }
 
 // The digest of one slice and then another. Of 2^63 bytes and more, which no memory holds, it is 32 zeros.
@@ -64,7 +61,7 @@ pub fn sha256_of_two(a: &[u8], b: &[u8]) -> [u8; 32]
     if a.len() >= TOO_MANY - b.len() {
         return [0; 32];
     }
-    digest(a, b)
+    digest(&Message::new(a, b))
 }
 
 // The first word of the hash value of nine bytes, which are one block.

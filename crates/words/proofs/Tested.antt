@@ -1,6 +1,7 @@
 -- What counts, as the test says it.
--- tested_none, tested_some. Assumes nothing.
-use Rattle.std.proofs.Common.{◌≡◌, ℕ, ◌%◌, ◌^◌, ◌≤◌, Bool, true, false, ◌&&◌, eqb, ltb, List, sym, refl, arith}
+-- MatchOption-then_some, tested_none, tested_some. Assumes nothing.
+use Rattle.std.proofs.Common.{◌≡◌, ℕ, ◌%◌, ◌^◌, ◌≤◌, Bool, true, false, ◌&&◌, eqb, ltb, List, Option, MatchOption, subst, sym, refl, arith}
+use Rattle.std.specs.Bool.{then_some}
 use Rattle.std.specs.Str.{bytes_eq}
 use Rattle.std.proofs.lemmas.Slice.Eq.{bytes_eq-Decides}
 use Rattle.std.proofs.lemmas.Bool.{and_parts, and_from, ltb-true, lt-ltb, eqb-true, eq-eqb}
@@ -9,6 +10,11 @@ use Rattle.speakall.specs.Frame.{p}
 use Rattle.words.specs.Bytes.{air_bytes}
 use Rattle.words.specs.Counting.{Counts, sender_in, word_in, is_counted}
 use Rattle.words.proofs.Said.{sender_read, word_read}
+
+-- what a test gives by `then_some`
+pub MatchOption-then_some : {A : Type 0} (r : Option A) (b : Bool) (x : A) (P : Type 0) (Q : A → Type 0) → r ≡ then_some b x → (b ≡ true → Q x) → (b ≡ false → P) → MatchOption r P Q
+MatchOption-then_some r true x P Q e t f = subst (λ o. MatchOption o P Q) (sym e) (t refl)
+MatchOption-then_some r false x P Q e t f = subst (λ o. MatchOption o P Q) (sym e) (f refl)
 
 false_from : (b : Bool) → (b ≡ true → ⊥) → b ≡ false
 false_from true n = absurd (n refl)

@@ -24,17 +24,19 @@ pub struct AirWord {
 fn joined(body: [u8; 8], sum: [u8; 4]) -> [u8; 12]
     ensures { result ≡ body ++ sum }
 {
-    let [a, b, c, d, e, f, g, h] = body;
-    let [i, j, k, l] = sum;
-    [a, b, c, d, e, f, g, h, i, j, k, l]
+    let mut bytes = [0; 12];
+    bytes[..8].copy_from_slice(&body);
+    bytes[8..].copy_from_slice(&sum);
+    bytes
 }
 
 // The first four bytes of the digest of the eight bytes and the part.
 fn sum_of(body: [u8; 8], part: u8) -> [u8; 4]
     ensures { result ≡ sum_of body part }
 {
-    let [a, b, c, d, e, f, g, h] = body;
-    sha256::sum([a, b, c, d, e, f, g, h, part])
+    let mut bytes = [part; 9];
+    bytes[..8].copy_from_slice(&body);
+    sha256::sum(bytes)
 }
 
 impl AirWord {

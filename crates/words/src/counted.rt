@@ -40,21 +40,14 @@ fn read(bytes: [u8; 12], part: u8) -> Option<AirWord>
     ensures { MatchOption result ((s f w : ℕ) → bytes ≢ air_bytes s f w part) (λ a. bytes ≡ air_bytes a.sender a.frame a.word part) }
 {
     let said = said_in(bytes);
-    let again = said.to_bytes(part);
-    if bytes == again { Some(said) } else { None }
+    (bytes == said.to_bytes(part)).then_some(said)
 }
 
 // Whether a sender that is there speaks in this slot of this part, by its plan.
 fn speaks(channel: Channel, sender: u32, part: u8, slot: u8) -> bool
     ensures { Decides result (Speaks (settings channel) sender part slot) }
 {
-    let Ok(plan) = Plan::of(channel, sender) else {
-        return false;
-    };
-    let Some(own) = plan.slot(part) else {
-        return false;
-    };
-    slot == own
+    Plan::of(channel, sender).is_ok_and(|plan| plan.slot(part) == Some(slot))
 }
 
 // Whether what was said counts in this slot of this part of this frame.
@@ -79,14 +72,10 @@ impl AirWord {
         ensures counts { MatchOption result ((sender word : ℕ) → Counts (settings channel) frame part slot bytes sender word → ⊥) (λ k. Counts (settings channel) frame part slot bytes k.sender k.word) }
     {
         let said = read(bytes, part)?;
-        if counts(said, channel, frame, part, slot) {
-            Some(Counted {
-                sender: said.sender,
-                word: said.word,
-            })
-        } else {
-            None
-        }
+        counts(said, channel, frame, part, slot).then_some(Counted {
+            sender: said.sender,
+            word: said.word,
+        })
     }
 
     // What a listener makes of this word, put out in this part and heard in this slot and frame: its sender and the word

@@ -1,19 +1,26 @@
--- A sign more while there are parts; the first part that isn't there ends the row, long before the last u8.
-use Rattle.std.proofs.Common.{vec_items, string_bytes, arith, rules}
-use Rattle.ice_grid.proofs.Signs.{signed_none, signed_more, signed_all}
+use Rattle.std.proofs.Common.{◌≡◌, vec_items, string_bytes, ap, ◌∙◌, arith}
+use Rattle.channels.specs.declared.channel.Channel.{Channel}
+use Rattle.ice_grid.proofs.Signs.{signs_none, signs_more, signs_not, signs_all}
 use Rattle.ice_grid.proofs.grid.put_signs.Goals as goal
+use Rattle.ice_grid.proofs.grid.put_signs.Goals.{in-Some+in_ok-put, in_default}
 
 pub loop-part-init : goal.loop-part-init
-loop-part-init c = search (rules, signed_none)
-
-pub returns-in_default : goal.returns-in_default
-returns-in_default c =
-    signed_all c.args.frame.now.channel.q (vec_items c.args.frame.now.slots) c.args.numbers.now c.args.y c.loop-part.part (string_bytes c.args.text.now) (string_bytes c.loop-part.text) c.loop-part.invariant c.in_default.ensures
+loop-part-init c = signs_none c.args.frame.now.channel.q (vec_items c.args.frame.now.slots) c.args.numbers.now c.args.y (string_bytes c.args.text.now)
 
 pub loop-part-preserved : goal.loop-part-preserved
 loop-part-preserved c =
-    let s = c.in-Some.ensures in
-    signed_more c.args.frame.now.channel.q (vec_items c.args.frame.now.slots) c.args.numbers.now c.args.y c.loop-part.part (string_bytes c.args.text.now) (string_bytes c.loop-part.text) (string_bytes c.put.new.text) c.in-Some.slot c.mark.result c.loop-part.invariant s.0 s.1 s.2 c.mark.ensures c.in_ok-put.ensures
+    let q = c.args.frame.now.channel.q in
+    let same : c.channel.result.q ≡ q = ap (λ (k : Channel). k.q) c.channel.ensures in
+    let slots = vec_items c.args.frame.now.slots in
+    elim c.match-slot.branch [
+      | in-Some+in_ok-put w ↦
+          ap string_bytes w.text-is
+          ∙ signs_more q slots c.args.numbers.now c.args.y c.loop-part.part _ (string_bytes c.loop-part.text) _ w.in-Some.slot w.mark.result c.loop-part.invariant w.in-Some.ensures.1 w.in-Some.ensures.2 w.mark.ensures w.in_ok-put.ensures
+      | in_default w ↦
+          ap string_bytes w.text-is ∙ signs_not q slots c.args.numbers.now c.args.y c.loop-part.part _ (string_bytes c.loop-part.text) c.loop-part.invariant (w.in_default.ensures (omega arith))
+    ]
 
 pub returns : goal.returns
-returns c = absurd (omega (arith, c.args.frame.now.channel.narrow, c.loop-part.invariant.few))
+returns c =
+    let same : c.channel.result.q ≡ c.args.frame.now.channel.q = ap (λ (k : Channel). k.q) c.channel.ensures in
+    signs_all c.args.frame.now.channel.q (vec_items c.args.frame.now.slots) c.args.numbers.now c.args.y c.loop-part.part (string_bytes c.args.text.now) (string_bytes c.loop-part.text) c.loop-part.invariant (omega arith)

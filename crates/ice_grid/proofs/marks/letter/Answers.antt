@@ -1,12 +1,22 @@
-use Rattle.std.proofs.Common.{rules}
-use Rattle.ice_grid.proofs.Signs.{letter_here, letter_more, letter_none}
+use Rattle.std.proofs.Common.{rules, sym, ap, ◌∙◌}
+use Rattle.std.specs.Iterator.Adapters.{zip_first, zip_second}
+use Rattle.std.specs.Slice.Iter.{iter_rest}
+use Rattle.std.proofs.lemmas.Slice.Zip.{either_empty_from_Zip}
+use Rattle.ice_grid.proofs.Signs.{letter_same, letter_here, letter_more, letter_none}
 use Rattle.ice_grid.proofs.marks.letter.Goals as goal
 
-pub returns-then-numbers-i : goal.returns-then-numbers-i
-returns-then-numbers-i c = search (rules, letter_here)
+pub loop-other-init : goal.loop-other-init
+loop-other-init c =
+    let z = c.into_iter-other-iterator.ensures.into_iter_gives in
+    ((tt, tt), tt, letter_same c.args.number _ _ _ _ (ap (λ i. iter_rest (zip_first i)) z ∙ ap iter_rest c.zip-other-items.ensures.first ∙ c.iter.ensures.rest) (ap (λ i. iter_rest (zip_second i)) z ∙ search rules))
 
-pub loop-i-preserved : goal.loop-i-preserved
-loop-i-preserved c = search (rules, letter_more)
+pub returns-then-other-number : goal.returns-then-other-number
+returns-then-other-number c =
+    c.from.ensures ∙ sym (letter_here c.args.number _ _ _ _ _ _ c.in-Some.ensures.steps.0 c.in-Some.ensures.steps.1 c.if-other-number.true) ∙ c.loop-other.invariant.2
+
+pub loop-other-preserved : goal.loop-other-preserved
+loop-other-preserved c =
+    ((tt, tt), tt, sym (letter_more c.args.number _ _ _ _ _ _ c.in-Some.ensures.steps.0 c.in-Some.ensures.steps.1 c.if-other-number.false) ∙ c.loop-other.invariant.2)
 
 pub returns : goal.returns
-returns c = search (rules, letter_none)
+returns c = sym (letter_none c.args.number _ _ (either_empty_from_Zip c.loop-other.other-iterator c.next.new.self _ c.in-None.is c.next.ensures.steps)) ∙ c.loop-other.invariant.2

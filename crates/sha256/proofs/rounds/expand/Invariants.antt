@@ -3,4 +3,4 @@ use Rattle.sha256.specs.Hash.{schedule}
 use Rattle.sha256.proofs.rounds.expand.Given as goal
 
 abbrev pub invariant-loop-n : goal.invariant-loop-n
-invariant-loop-n l = (take (l.n + 16) l.w ≡ schedule (take 16 l.initial.w) l.n) × (length l.w ≡ 64)
+invariant-loop-n l = (take (l.n + 16) l.w ≡ schedule l.fn.block l.n) × (length l.w ≡ 64)

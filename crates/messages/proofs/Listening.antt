@@ -29,13 +29,13 @@ unfolding below
 below_more n [] le h = tt
 below_more n (a ∷ m) le h = let both = and_yes (ltb a n) (below n m) h in let lt : a < n = ltb→lt a n both.0 in yes_and _ _ (lt→ltb a p (omega arith)) (below_more n m le both.1)
 
-below_reduced : (m : List ℕ) → Reduced m → T (below p m)
+pub below_reduced : (m : List ℕ) → Reduced m → T (below p m)
 unfolding below
 below_reduced [] r = tt
 below_reduced (a ∷ m) r = yes_and _ _ (lt→ltb _ _ (r 0)) (below_reduced m (λ k. r (suc k)))
 
 -- all words are the first ones and the others
-agrees-take : (m : List ℕ) (n : ℕ) (ws : List PartWord) → T (agrees m (words_in ws)) → T (agrees m (words_in (take n ws))) × T (agrees m (words_in (drop n ws)))
+pub agrees-take : (m : List ℕ) (n : ℕ) (ws : List PartWord) → T (agrees m (words_in ws)) → T (agrees m (words_in (take n ws))) × T (agrees m (words_in (drop n ws)))
 unfolding agrees
 agrees-take m zero ws h = (tt, h)
 agrees-take m (suc n) [] h = (tt, tt)

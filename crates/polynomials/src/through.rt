@@ -22,7 +22,7 @@ fn slope(x: u8, y: u32, x0: u8, y0: u32) -> u32
     (rise * inverse_of_difference(x, x0) % P) as u32
 }
 
-// Words and values go side by side, and that they are as many and reduced is said at each step: no ghost field stands beside values that are lent to be changed.
+// Words and values go side by side: each step lends a part of both to the next and then has the whole again, so a struct round them would be made and taken apart at each step.
 
 // Each value becomes the slope from the point (x₀, y₀) to the point of its word's part and itself.
 fn slopes(x0: u8, y0: u32, words: &[PartWord], values: &mut [u32])

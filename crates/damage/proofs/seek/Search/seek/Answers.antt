@@ -1,19 +1,18 @@
 -- What a set leaves is enough; each level one turn on; and where all sets fail there is no message.
 use Rattle.std.proofs.Common.{◌-◌, [], ◌∷◌, length, take, refl, arith, below_more}
 use Rattle.damage.proofs.Trying.{block-some, left-enough, length_taken, more, sets-fail, tried-none}
-use Rattle.damage.proofs.seek.seek.Goals as goal
+use Rattle.damage.proofs.seek.Search.seek.Goals as goal
 use Rattle.polynomials.proofs.Sound.{sound_few}
 
 pub without-found-requires : goal.without-found-requires
 without-found-requires c =
     let pos = block-some _ _ _ c.requires.some c.requires.enough in
     let set = c.sets.i ∷ c.loop-j.j ∷ c.loop-k.k ∷ c.loop-l.l ∷ [] in
-    let out = take (c.args.spare - 0) set in
+    let out = take (c.args.self.now.spare - 0) set in
     record {
       block = pos;
-      sound = c.requires.sound;
-      few = omega (arith, sound_few 251 c.args.words.now c.requires.sound);
-      enough = omega (arith, left-enough (length c.args.message.now) c.args.spare c.args.words.now _ out c.requires.some pos refl (omega arith) (length_taken c.args.spare set));
+      few = omega (arith, sound_few 251 c.args.self.now.words.now c.args.self.now.sound);
+      enough = omega (arith, left-enough (length c.args.message.now) c.args.self.now.spare c.args.self.now.words.now _ out c.requires.some pos refl (omega arith) (length_taken c.args.self.now.spare set));
     }
 
 pub loop-k-preserved : goal.loop-k-preserved
@@ -26,4 +25,4 @@ pub sets-preserved : goal.sets-preserved
 sets-preserved c = (c.loop-j.invariant.0, below_more _ _ c.sets.invariant.1 (λ j a b. c.loop-j.invariant.1 j a (omega (arith, c.end-j-end.ensures))))
 
 pub returns-after-sets : goal.returns-after-sets
-returns-after-sets c = tried-none _ _ _ _ _ _ c.sets.invariant.0 (sets-fail _ _ _ _ c.requires.some c.requires.few c.requires.enough c.sets-test.false c.sets.invariant.1)
+returns-after-sets c = tried-none _ _ _ _ _ _ c.sets.invariant.0 (sets-fail _ _ _ _ c.requires.some c.args.self.now.few c.requires.enough c.sets-test.false c.sets.invariant.1)

@@ -1,14 +1,15 @@
 -- The answer to words: each of its parts from the relation of what is to be made of them (answer), and each way to it.
-use Rattle.std.proofs.Common.{◌≡◌, ℕ, ◌+◌, ◌-◌, ◌<◌, ◌≤◌, Bool, true, false, cond, T, eqb, List, [], ◌∷◌, length, take, sym, subst, arith}
+use Rattle.std.proofs.Common.{◌≡◌, ℕ, ◌+◌, ◌<◌, ◌≤◌, Bool, true, false, cond, T, eqb, List, [], ◌∷◌, length, take, sym, subst, arith}
 use mir.Facts.{yes_and}
-use Rattle.std.proofs.lemmas.List.{length-take-le}
-use Rattle.damage.proofs.Trying.{agrees-take, length-words_in}
-use Rattle.damage.specs.Made.{Answer, Cleared, Zeros, read_of}
+use Rattle.std.proofs.lemmas.List.{length-map, length-take-le}
+use Rattle.damage.specs.Made.{Answer}
 use Rattle.damage.specs.Seeking.{NoneNear, NoneOn}
-use Rattle.damage.specs.declared.listen.Reading.{Reading}
-use Rattle.damage.specs.declared.listen.Reading.TheVariants.{TooFew, Message, Doubtful}
+use Rattle.messages.proofs.Listening.{agrees-take}
+use Rattle.messages.specs.Made.{Cleared, Zeros, read_of}
+use Rattle.messages.specs.declared.listen.Reading.{Reading}
+use Rattle.messages.specs.declared.listen.Reading.TheVariants.{TooFew, Message, Doubtful}
 use Rattle.polynomials.proofs.Sound.{sound-take}
-use Rattle.polynomials.specs.Heard.{words_in}
+use Rattle.polynomials.specs.Heard.{word_of, words_in}
 use Rattle.polynomials.specs.declared.words.PartWord.{PartWord}
 use Rattle.readings.proofs.Answers.{damaged, few_units, made_reads, near_found}
 use Rattle.readings.specs.Reads.{Made, Near, spare}
@@ -26,26 +27,23 @@ off-agrees m (w ∷ ws) e = yes_and _ _ (here (eqb (word_at m w.part) w.word) e)
     here false e = absurd (omega arith)
 
 -- where no word may be off, the first s words decide
-pub none_first : (s e n : ℕ) (ws : List PartWord) → e ≡ n → e ≡ 0 → s ≤ length ws → T (sound_in 251 (words_in ws)) → NoneOn s e ws (take (s - 0) ws) → NoneNear s n ws
-none_first s e n ws is zero' le sound none m near =
-    let near' : Near s e (words_in ws) m = rw is near in
-    let same : s - 0 ≡ s = omega arith in
-    none (rw same (length-take-le s ws le)) (sound-take 251 251 (s - 0) ws (omega arith) sound) m near' (agrees-take m (s - 0) ws (off-agrees m (words_in ws) (omega (arith, near'.near))))
+pub none_first : (s e : ℕ) (ws : List PartWord) → e ≡ 0 → s ≤ length ws → T (sound_in 251 (words_in ws)) → NoneOn s e ws (take s ws) → NoneNear s e ws
+none_first s e ws zero' le sound none m near = none (length-take-le s ws le) (sound-take 251 251 s ws (omega arith) sound) m near (agrees-take m s ws (off-agrees m (words_in ws) (omega (arith, near.near)))).0
 
 module _ (q s : ℕ) (small : q < 252) (ws : List PartWord) where
   answer : (r : Reading) (left : List ℕ) → Made q s (words_in ws) (read_of r left) → Cleared r left → Answer q s (words_in ws) r left
   answer r left made cleared = record { made = made; so = made_reads q s small (words_in ws) (read_of r left) made; damage = damaged q s small (words_in ws) (read_of r left) made; cleared = cleared }
 
   pub answer-few : (left : List ℕ) → length ws < s → Zeros left → Answer q s (words_in ws) (TooFew (length ws)) left
-  answer-few left few zeros = answer (TooFew (length ws)) left (sym (length-words_in ws), rw (length-words_in ws) few) zeros
+  answer-few left few zeros = answer (TooFew (length ws)) left (sym (length-map ws word_of), rw (length-map ws word_of) few) zeros
 
   pub answer-unsound : (left : List ℕ) → s ≤ length ws → false ≡ sound_in q (words_in ws) → Zeros left → Answer q s (words_in ws) Doubtful left
-  answer-unsound left enough off zeros = answer Doubtful left (rw (length-words_in ws) enough, λ sound m near. subst T (sym off) sound) zeros
+  answer-unsound left enough off zeros = answer Doubtful left (rw (length-map ws word_of) enough, λ sound m near. subst T (sym off) sound) zeros
 
   pub answer-read : (left : List ℕ) (o : ℕ) → s ≤ length ws → true ≡ sound_in q (words_in ws) → o ≡ off_of left (words_in ws) → Near s (spare (length ws) s) (words_in ws) left → Answer q s (words_in ws) (Message (length ws) o) left
   answer-read left o enough sound is near =
-      let near' : Near s (spare (length (words_in ws)) s) (words_in ws) left = rw (length-words_in ws) near in
-      answer (Message (length ws) o) left (sym (length-words_in ws), is, near_found q s (few_units q small) (words_in ws) (rw (length-words_in ws) enough) (from_true _ sound) left near') tt
+      let near' : Near s (spare (length (words_in ws)) s) (words_in ws) left = rw (length-map ws word_of) near in
+      answer (Message (length ws) o) left (sym (length-map ws word_of), is, near_found q s (few_units q small) (words_in ws) (rw (length-map ws word_of) enough) (from_true _ sound) left near') tt
 
   pub answer-none : (left : List ℕ) → s ≤ length ws → NoneNear s (spare (length ws) s) ws → Zeros left → Answer q s (words_in ws) Doubtful left
-  answer-none left enough none zeros = answer Doubtful left (rw (length-words_in ws) (enough, λ sound m near. none m near)) zeros
+  answer-none left enough none zeros = answer Doubtful left (rw (length-map ws word_of) (enough, λ sound m near. none m near)) zeros

@@ -1,10 +1,16 @@
 -- Trying a polynomial: it is the only one through the words kept, so if it is not near enough, no message on them is (tried).
--- And what is kept: the words left, one more at each turn (kept_more, kept_full, kept-end), sound and on a message where all words left are (tried-left).
-use Rattle.std.proofs.Common.{◌≡◌, ℕ, zero, suc, ◌+◌, ◌-◌, ◌*◌, ◌/◌, ◌<◌, ◌≤◌, min, Bool, true, false, cond, ◌&&◌, ◌||◌, T, eqb, leb, List, [], ◌∷◌, ◌++◌, length, get_or, take, drop, set, Some, None, Option, sym, refl, ap, ◌∙◌, subst, ⊎_elim, mul-le-mul_right, mod-lt, le-div_iff_mul-le, div-mul-le_self, arith, lt→ltb}
+-- And what is kept: the words left, one more at each turn (kept_more, kept_all), sound and on a message where all words left are (tried-left).
+use Rattle.std.proofs.Common.{◌≡◌, ℕ, ◌+◌, ◌-◌, ◌*◌, ◌/◌, ◌<◌, ◌≤◌, min, Bool, true, false, cond, not, ◌&&◌, T, eqb, leb, List, [], ◌∷◌, ◌++◌, length, get_or, take, set, Some, None, Option, map, zero-add, sym, refl, ap, ◌∙◌, subst, ⊎_elim, mul-le-mul_right, mod-lt, le-div_iff_mul-le, div-mul-le_self, arith}
 use native.Mathlib.Nat.{mod-add-div}
-use mir.Facts.{and_yes, yes_and}
-use Rattle.std.proofs.lemmas.List.{append_assoc, append-nil, at_drop_all, at_drop_more, length-take, length-take-le, take_all, take_at, take_more_set}
-use Rattle.std.proofs.lemmas.Bool.{and_from, and_parts, cases_eq, cases_lt, eq-eqb, le-leb, leb-true, ne_eqb}
+use Rattle.std.proofs.lemmas.List.{get_or-map, get_or-take, length-map, length-take, length-take-le, take_all, take_more, take_more_set}
+use Rattle.std.proofs.lemmas.List.FromFn.{get_or-enumerate_from, length-enumerate_from}
+use Rattle.std.proofs.lemmas.Iterator.{YieldsList}
+use Rattle.std.proofs.lemmas.Iterator.Consumers.{YieldsList-end, YieldsList-turn}
+use Rattle.std.specs.Iterator.{Yields}
+use Rattle.std.specs.List.{enumerate_from, filter, list_any}
+use Rattle.std.specs.Option.{is_some}
+use Rattle.std.proofs.lemmas.Bool.{and_from, and_parts, cases_eq, cases_lt, le-leb, leb-true, ne_eqb}
+use Rattle.messages.proofs.Listening.{agrees-take, below_reduced}
 use Rattle.polynomials.proofs.Sound.{sound-take}
 use Rattle.readings.proofs.Blocks.{length-left, map-left, sound-left}
 use Rattle.damage.specs.Seeking.{NoneNear, NoneOn, Tried, near}
@@ -17,17 +23,8 @@ use Rattle.readings.specs.Reads.{Near, limit}
 use Rattle.speakall.proofs.Truth.{true_from}
 use Rattle.speakall.proofs.Words.{agrees_off}
 use Rattle.speakall.specs.Code.{off_of, sound_in}
-use Rattle.speakall.specs.Frame.{agrees, p}
+use Rattle.speakall.specs.Frame.{agrees}
 use Rattle.speakall.specs.Plan.{below}
-
-pub length-words_in : (ws : List PartWord) → length (words_in ws) ≡ length ws
-length-words_in [] = refl
-length-words_in (w ∷ ws) = ap suc (length-words_in ws)
-
-below_reduced : (m : List ℕ) → Reduced m → T (below p m)
-unfolding below
-below_reduced [] r = tt
-below_reduced (a ∷ m) r = yes_and _ _ (lt→ltb _ _ (r 0)) (below_reduced m (λ k. r (suc k)))
 
 -- f goes through the words kept
 pub tried : (s e : ℕ) (ws kept : List PartWord) (f : List ℕ) (r : Option ℕ) → length f ≡ s → Reduced f → T (agrees f (words_in kept)) → r ≡ near e ws f → Tried s e ws (NoneOn s e ws kept) r f
@@ -36,64 +33,73 @@ tried s e ws kept f r lf reduced on is = rw is (go (below limit f && leb (off_of
     go : (b : Bool) → (below limit f && leb (off_of f (words_in ws)) e) ≡ b → Tried s e ws (NoneOn s e ws kept) (cond b (Some (off_of f (words_in ws))) None) f
     go true t = let both = and_parts _ _ t in (refl, record { long = lf; small = subst T (sym both.0) tt; near = leb-true _ _ both.1 })
     go false t = λ lk sound m close on-m.
-        let le : s ≤ length (words_in kept) = omega (arith, length-words_in kept) in
+        let le : s ≤ length (words_in kept) = omega (arith, length-map kept word_of) in
         let same : m ≡ f = only_near 251 s (few_units 251 (omega arith)) (words_in kept) le sound m f close.long lf (below-p m close.small) (below_reduced f reduced) (omega (arith, agrees_off m (words_in kept) on-m)) (omega (arith, agrees_off f (words_in kept) on)) in
         let it : Near s e (words_in ws) f = subst (Near s e (words_in ws)) same close in
         let z : true ≡ false = sym (and_from _ _ (true_from _ it.small) (le-leb _ _ it.near)) ∙ t in
         let c : ◌≡◌ {A = ℕ} 0 1 = cc in
         absurd (omega arith)
 
--- the blocks left decide
-module _ (x : ℕ) (out : List ℕ) (i : ℕ) (h : i < length out) (e : is_among x (drop i out) ≡ is_among x out) where
-  among-step : (eqb x (get_or out i 0) || is_among x (drop (i + 1) out)) ≡ is_among x out
-  unfolding is_among
-  among-step = sym (at_drop_more (is_among x) out i 0 h) ∙ e
+eqb_turned : (x y : ℕ) → eqb x y ≡ eqb y x
+eqb_turned x y = ⊎_elim (λ (e : x ≡ y). rw e refl) (λ (ne : x ≡ y → ⊥). ne_eqb x y ne ∙ sym (ne_eqb y x (λ e. ne (sym e)))) (cases_eq x y)
 
-  pub among-more : (x ≡ get_or out i 0 → ⊥) → is_among x (drop (i + 1) out) ≡ is_among x out
-  among-more ne = ap (λ (b : Bool). b || is_among x (drop (i + 1) out)) (sym (ne_eqb _ _ ne)) ∙ among-step
-
-  pub among-here : x ≡ get_or out i 0 → true ≡ is_among x out
-  among-here f = ap (λ (b : Bool). b || is_among x (drop (i + 1) out)) (sym (eq-eqb _ _ f)) ∙ among-step
-
-pub among_none : (x : ℕ) (out : List ℕ) (i : ℕ) → length out ≤ i → is_among x (drop i out) ≡ is_among x out → false ≡ is_among x out
+pub among_any : (x : ℕ) (out : List ℕ) → list_any (λ y. eqb y x) out ≡ is_among x out
 unfolding is_among
-among_none x out i h e = sym (at_drop_all (is_among x) out i h) ∙ e
+among_any x [] = refl
+among_any x (y ∷ out) = rw (eqb_turned y x, among_any x out) refl
 
--- the words left that are copied, and those still to come, are all
-module _ (ws kept : List PartWord) (b : ℕ) (out : List ℕ) (i n : ℕ) (h : i < length ws) (e : take n kept ++ left b out i (drop i ws) ≡ left b out 0 ws) where
-  pub kept-skip : true ≡ is_among (i / b) out → take n kept ++ left b out (i + 1) (drop (i + 1) ws) ≡ left b out 0 ws
-  unfolding left
-  kept-skip t = ap (λ (l : List PartWord). take n kept ++ l) (ap (λ (u : Bool). cond u (left b out (i + 1) (drop (i + 1) ws)) (get_or ws i (record { part = 0; value = 0 }) ∷ left b out (i + 1) (drop (i + 1) ws))) t ∙ sym (at_drop_more (left b out i) ws i (record { part = 0; value = 0 }) h)) ∙ e
+-- the words that are left, each with its place
+abbrev pub left_at : List PartWord → (b : ℕ) → List ℕ → List (ℕ × PartWord)
+left_at ws b out = filter (λ p. not (is_among (p.0 / b) out)) (enumerate_from 0 ws)
 
-  pub kept_more : false ≡ is_among (i / b) out → n < length kept → take (n + 1) (set kept n (get_or ws i (record { part = 0; value = 0 }))) ++ left b out (i + 1) (drop (i + 1) ws) ≡ left b out 0 ws
-  unfolding left
-  kept_more t lt =
-      let w = get_or ws i (record { part = 0; value = 0 }) in
-      let rest = left b out (i + 1) (drop (i + 1) ws) in
-      ap (λ (l : List PartWord). l ++ rest) (take_more_set kept n w lt) ∙ append_assoc (take n kept) (w ∷ []) rest ∙
-      ap (λ (l : List PartWord). take n kept ++ l) (ap (λ (u : Bool). cond u rest (w ∷ rest)) t ∙ sym (at_drop_more (left b out i) ws i (record { part = 0; value = 0 }) h)) ∙ e
+left-at : (b : ℕ) (out : List ℕ) (x : ℕ) (ws : List PartWord) → map (λ (p : ℕ × PartWord). p.1) (filter (λ p. not (is_among (p.0 / b) out)) (enumerate_from x ws)) ≡ left b out x ws
+unfolding left
+left-at b out x [] = refl
+left-at b out x (w ∷ ws) = go (is_among (x / b) out) (left-at b out (x + 1) ws)
+  where
+    go : (t : Bool) → map (λ (p : ℕ × PartWord). p.1) (filter (λ p. not (is_among (p.0 / b) out)) (enumerate_from (x + 1) ws)) ≡ left b out (x + 1) ws → map (λ (p : ℕ × PartWord). p.1) (cond (not t) ((x, w) ∷ filter (λ p. not (is_among (p.0 / b) out)) (enumerate_from (x + 1) ws)) (filter (λ p. not (is_among (p.0 / b) out)) (enumerate_from (x + 1) ws))) ≡ cond t (left b out (x + 1) ws) (w ∷ left b out (x + 1) ws)
+    go true e = e
+    go false e = ap (λ (l : List PartWord). w ∷ l) e
 
-module _ (ws kept : List PartWord) (b : ℕ) (out : List ℕ) (i n s : ℕ) (long : length kept ≡ s) (e : take n kept ++ left b out i (drop i ws) ≡ left b out 0 ws) where
-  pub kept_full : n ≡ length kept → kept ≡ take s (left b out 0 ws)
-  kept_full f =
-      let all : take n kept ≡ kept = take_all n kept (omega arith) in
-      sym (ap (take s) (sym e ∙ ap (λ (l : List PartWord). l ++ left b out i (drop i ws)) all) ∙ take_at kept (left b out i (drop i ws)) s long)
+-- a turn and the end of a loop over a chain of iterators, with the loop's own facts first
+module _ {S A B : Type 0} {steps : S → Option A → S → Type 0} {v : A → B} {s : S} {all : List B} (xs : List A) (t : S) (yielded : Yields steps s xs t) (r : Option A) (u : S) (step : steps t r u) where
+  pub turn : (x : A) → r ≡ Some x → YieldsList steps v s all → (length xs < length all) × (v x ≡ get_or all (length xs) (v x))
+  turn x is chain = YieldsList-turn chain xs t yielded r u x is step
 
-  pub kept-end : length ws ≤ i → s ≤ length (left b out 0 ws) → n ≤ length kept → kept ≡ take s (left b out 0 ws)
-  unfolding left
-  kept-end h room le =
-      let f : take n kept ≡ left b out 0 ws = sym (append-nil (take n kept)) ∙ ap (λ (l : List PartWord). take n kept ++ l) (sym (at_drop_all (left b out i) ws i h)) ∙ e in
-      kept_full (omega (arith, ap length f, length-take-le n kept le))
+  pub end : r ≡ None → YieldsList steps v s all → length xs ≡ length all
+  end is chain = (YieldsList-end chain xs t yielded r u is step).1
 
-pub agrees-take : (m : List ℕ) (n : ℕ) (ws : List PartWord) → T (agrees m (words_in ws)) → T (agrees m (words_in (take n ws)))
-unfolding agrees
-agrees-take m zero ws h = tt
-agrees-take m (suc n) [] h = tt
-agrees-take m (suc n) (w ∷ ws) h = let both = and_yes _ _ h in yes_and _ _ both.0 (agrees-take m n ws both.1)
+-- the first k of them are copied: one more, and all for which there is room
+module _ (ws kept : List PartWord) (b : ℕ) (out : List ℕ) (n k : ℕ) (long : length kept ≡ n) (copied : take k kept ≡ take k (left b out 0 ws)) where
+  pub kept_more : (place i j : ℕ) (w : PartWord) → j ≡ k + 1 → let all = enumerate_from 0 (take n (left_at ws b out)) in (k < length all) × ((place, (i, w)) ≡ get_or all k (place, (i, w))) → take j (set kept place w) ≡ take j (left b out 0 ws)
+  kept_more place i j w next at =
+      let some = left_at ws b out in
+      let same = left-at b out 0 ws in
+      let lt : k < length (take n some) = omega (arith, at.0, length-enumerate_from 0 (take n some)) in
+      let room : k < n = omega (arith, length-take n some) in
+      let there : k < length some = omega (arith, length-take n some) in
+      let pair = at.1 ∙ get_or-enumerate_from 0 (take n some) k (place, (i, w)) lt in
+      let is : place ≡ k = ap (λ (p : ℕ × (ℕ × PartWord)). p.0) pair ∙ zero-add k in
+      let word : w ≡ get_or (left b out 0 ws) k w =
+      ap (λ (p : ℕ × (ℕ × PartWord)). p.1.1) pair ∙ ap (λ (p : ℕ × PartWord). p.1) (get_or-take n some k (i, w) room) ∙
+      sym (get_or-map (λ (p : ℕ × PartWord). p.1) some k (i, w) w there) ∙ ap (λ (l : List PartWord). get_or l k w) same in
+      let end : k < length (left b out 0 ws) = omega (arith, ap length same, length-map some (λ (p : ℕ × PartWord). p.1)) in
+      rw (next, is) (take_more_set kept k w (omega arith) ∙ ap (λ (l : List PartWord). l ++ (w ∷ [])) copied ∙
+      ap (λ (v : PartWord). take k (left b out 0 ws) ++ (v ∷ [])) word ∙ sym (take_more (left b out 0 ws) k w end))
 
-tried-weaker : (s e : ℕ) (ws : List PartWord) (A B : Type 0) (r : Option ℕ) (f : List ℕ) → (A → B) → Tried s e ws A r f → Tried s e ws B r f
+  pub kept_all : k ≡ length (enumerate_from 0 (take n (left_at ws b out))) → n ≤ length (left b out 0 ws) → kept ≡ take n (left b out 0 ws)
+  kept_all is enough =
+      let some = left_at ws b out in
+      let all : k ≡ n = omega (arith, is, length-enumerate_from 0 (take n some), length-take n some, ap length (left-at b out 0 ws), length-map some (λ (p : ℕ × PartWord). p.1)) in
+      sym (take_all k kept (omega arith)) ∙ copied ∙ ap (λ (n : ℕ). take n (left b out 0 ws)) all
+
+pub tried-weaker : (s e : ℕ) (ws : List PartWord) (A B : Type 0) (r : Option ℕ) (f : List ℕ) → (A → B) → Tried s e ws A r f → Tried s e ws B r f
 tried-weaker s e ws A B None f to t = to t
 tried-weaker s e ws A B (Some o) f to t = t
+
+pub tried-some : (s e : ℕ) (ws : List PartWord) (A B : Type 0) (r : Option ℕ) (f : List ℕ) → true ≡ is_some r → Tried s e ws A r f → Tried s e ws B r f
+tried-some s e ws A B None f is t = let z : ◌≡◌ {A = ℕ} 0 1 = cc in absurd (omega arith)
+tried-some s e ws A B (Some o) f is t = t
 
 -- no message on the words kept is none on all words left
 pub tried-left : (s e : ℕ) (ws kept : List PartWord) (b : ℕ) (out : List ℕ) (r : Option ℕ) (f : List ℕ) → T (sound_in 251 (words_in ws)) → s ≤ length (left b out 0 ws) → kept ≡ take s (left b out 0 ws) → Tried s e ws (NoneOn s e ws kept) r f → Tried s e ws (Fails s e (words_in ws) b out) r f
@@ -104,7 +110,7 @@ tried-left s e ws kept b out r f sound room is = tried-weaker s e ws (NoneOn s e
         let all = map-left word_of b out 0 ws in
         none (ap length is ∙ length-take-le s (left b out 0 ws) room) (
         subst (λ (l : List PartWord). T (sound_in 251 (words_in l))) (sym is) (sound-take 251 251 s (left b out 0 ws) (omega arith) (rw all (sound-left 251 b 0 out (words_in ws) sound)))) m near (
-        subst (λ (l : List PartWord). T (agrees m (words_in l))) (sym is) (agrees-take m s (left b out 0 ws) (rw all on)))
+        subst (λ (l : List PartWord). T (agrees m (words_in l))) (sym is) (agrees-take m s (left b out 0 ws) (rw all on)).0)
 
 -- without any e blocks s words or more are left
 pub left-enough : (s e : ℕ) (ws : List PartWord) (b : ℕ) (out : List ℕ) → 0 < e → 0 < b → b ≡ (length ws - s) / e → s ≤ length ws → length out ≤ e → s ≤ length (left b out 0 ws)
@@ -155,4 +161,4 @@ pub sets-fail : (s e : ℕ) (ws : List PartWord) (i : ℕ) → 0 < e → e ≤ 4
 sets-fail s e ws i some few enough all fails =
     let w = length ws in
     none_near s e (words_in ws) ((w - s) / e) ((w - 1) / ((w - s) / e) + 1) some few (block-some w s e some enough) (blocks-many w s e some enough) (
-    rw (length-words_in ws) (blocks-all w s e some enough)) (λ j lt. fails j (omega arith))
+    rw (length-map ws word_of) (blocks-all w s e some enough)) (λ j lt. fails j (omega arith))

@@ -5,5 +5,5 @@
 pub mod listen;
 mod seek;
 
-pub use listen::{Reading, read};
-pub use polynomials::{PartWord, is_message, word_at, words_of};
+pub use listen::read;
+pub use messages::{PartWord, Reading, is_message, word_at, words_of};

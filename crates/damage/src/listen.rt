@@ -1,64 +1,14 @@
 // What a listener makes of the words heard of one sender, whatever they are: it works the message out from the first words, and the others test it;
 // where too many are off it, it looks for a message that few enough are off.
-ghost use Rattle.std.specs.Prelude.{◌≡◌, ◌<◌, ◌≤◌, T, length};
+ghost use Rattle.std.specs.Prelude.{◌<◌, length};
 ghost use Rattle.channels.specs.Settings.{settings};
-ghost use Rattle.damage.specs.Made.{Answer, Zeros, fault_of};
-ghost use Rattle.damage.specs.Seeking.{Sought};
+ghost use Rattle.damage.specs.Made.{Answer};
 ghost use Rattle.polynomials.specs.Heard.{words_in};
-ghost use Rattle.readings.specs.Reads.{spare as spare_of};
-ghost use Rattle.speakall.specs.Code.{sound_in};
 
-use crate::seek::{attempt, seek, spare};
-use channels::{Channel, Fault};
+use crate::seek::Search;
+use channels::Channel;
+use messages::Reading;
 use polynomials::{PartWord, is_sound};
-
-// What the words of one sender come to.
-#[derive(Clone, Copy, PartialEq, Eq, Debug)]
-pub enum Reading {
-    // Fewer words than the message has numbers: so many.
-    TooFew(usize),
-    // A message, on so many words, of which so many are off it.
-    Message { words: usize, off: usize },
-    // Words that no message fits.
-    Doubtful,
-}
-
-impl Reading {
-    // The fault that a listener tells in the place of a message.
-    pub fn fault(self) -> Option<Fault>
-        ensures { result ≡ fault_of self }
-    {
-        match self {
-            Reading::TooFew(_) => Some(Fault::TooFew),
-            Reading::Message { .. } => None,
-            Reading::Doubtful => Some(Fault::Doubtful),
-        }
-    }
-}
-
-// Makes every number 0.
-fn clear(message: &mut [u32])
-    ensures { Zeros message.new }
-{
-    message.fill(0);
-}
-
-// Finds the message of sound words, s or more: from the first s words, and else, if any may be off, by leaving out blocks of words.
-fn find(words: &[PartWord], message: &mut [u32]) -> Option<usize>
-    requires sound { T (sound_in 251 (words_in words.now)) }
-    requires enough { length message.old ≤ length words.now }
-    ensures { Sought (length message.old) (spare_of (length words.now) (length message.old)) words.now result message.new }
-{
-    let size = message.len();
-    let spare = spare(words.len(), size);
-    if let Some(off) = attempt(words, &words[0..size], spare, message) {
-        return Some(off);
-    }
-    if spare == 0 {
-        return None;
-    }
-    seek(words, spare, message)
-}
 
 // The reading of words with parts below `parts`.
 fn decide(parts: u8, words: &[PartWord], message: &mut [u32]) -> Reading
@@ -66,20 +16,20 @@ fn decide(parts: u8, words: &[PartWord], message: &mut [u32]) -> Reading
     ensures { Answer parts (length message.old) (words_in words.now) result message.new }
 {
     if words.len() < message.len() {
-        clear(message);
+        message.fill(0);
         return Reading::TooFew(words.len());
     }
     if !is_sound(parts, words) {
-        clear(message);
+        message.fill(0);
         return Reading::Doubtful;
     }
-    match find(words, message) {
+    match Search::new(words, message.len()).find(message) {
         Some(off) => Reading::Message {
             words: words.len(),
             off,
         },
         None => {
-            clear(message);
+            message.fill(0);
             Reading::Doubtful
         }
     }

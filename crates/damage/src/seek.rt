@@ -15,48 +15,17 @@ use polynomials::{PartWord, interpolate, is_message, off};
 const PARTS: usize = 251;
 
 // So many words may be off, if a message of `size` numbers is to be read from so many: half of those above the size, at most 4.
-pub fn spare(words: usize, size: usize) -> usize
+fn spare(words: usize, size: usize) -> usize
     ensures { result ≡ spare_of words size }
 {
     (words.saturating_sub(size) / 2).min(4)
-}
-
-// How many words are off these numbers, if they are a message's and at most `spare` are.
-fn near(message: &[u32], words: &[PartWord], spare: usize) -> Option<usize>
-    ensures { result ≡ near_of spare words.now message.now }
-{
-    if !is_message(message) {
-        return None;
-    }
-    let count = off(message, words);
-    if count <= spare { Some(count) } else { None }
-}
-
-// Tries the polynomial through the words kept: how many of all words are off it, if it is a message and at most `spare` are.
-pub fn attempt(
-    words: &[PartWord],
-    kept: &[PartWord],
-    spare: usize,
-    message: &mut [u32],
-) -> Option<usize>
-    ensures { Tried (length message.old) spare words.now (NoneOn (length message.old) spare words.now kept.now) result message.new }
-{
-    if !interpolate(kept, message) {
-        return None;
-    }
-    near(message, words, spare)
 }
 
 // Whether a block is one of those left out.
 fn is_out(block: usize, out: &[usize]) -> bool
     ensures { result ≡ is_among block out.now }
 {
-    for other in out {
-        if block == *other {
-            return true;
-        }
-    }
-    false
+    out.contains(&block)
 }
 
 // Copies the first words that are in none of the blocks left out, as many as there is room for.
@@ -65,38 +34,13 @@ fn keep(words: &[PartWord], block: usize, out: &[usize], room: &mut [PartWord])
     requires enough { length room.old ≤ length (left_in block out.now 0 words.now) }
     ensures { room.new ≡ take (length room.old) (left_in block out.now 0 words.now) }
 {
-    let mut count = 0;
-    for i in 0..words.len() {
-        if count == room.len() {
-            break;
-        }
-        if is_out(i / block, out) {
-            continue;
-        }
-        room[count] = words[i];
-        count += 1;
+    let left = words
+        .iter()
+        .enumerate()
+        .filter(|(i, _)| !is_out(*i / block, out));
+    for (place, (_, word)) in left.take(room.len()).enumerate() {
+        room[place] = *word;
     }
-}
-
-// Tries the polynomial through the first words that are in none of the blocks left out.
-fn without(
-    words: &[PartWord],
-    block: usize,
-    out: &[usize],
-    spare: usize,
-    message: &mut [u32],
-) -> Option<usize>
-    requires block { 0 < block }
-    requires sound { T (sound_in 251 (words_in words.now)) }
-    requires few { length message.old ≤ 251 }
-    requires enough { length message.old ≤ length (left_in block out.now 0 words.now) }
-    ensures { Tried (length message.old) spare words.now (Fails (length message.old) spare (words_in words.now) block out.now) result message.new }
-{
-    let size = message.len();
-    let mut room = [PartWord { part: 0, value: 0 }; PARTS];
-    let kept = &mut room[0..size];
-    keep(words, block, out, kept);
-    attempt(words, kept, spare, message)
 }
 
 // The first block of a loop over the blocks below `above`; where fewer than `level` blocks are left out, the loop goes through `above` only.
@@ -114,29 +58,97 @@ fn end(spare: usize, level: usize, above: usize) -> usize
     if spare < level { above + 1 } else { above }
 }
 
-// Tries the words left without each set of `spare` blocks, until a message is found: C(n, spare) polynomials at most, each in O(s²) products.
-pub fn seek(words: &[PartWord], spare: usize, message: &mut [u32]) -> Option<usize>
-    requires sound { T (sound_in 251 (words_in words.now)) }
-    requires some { 0 < spare }
-    requires few { spare ≤ 4 }
-    requires enough { 2 * spare + length message.old ≤ length words.now }
-    ensures { Sought (length message.old) spare words.now result message.new }
-{
-    let size = message.len();
-    let block = (words.len() - size) / spare;
-    let blocks = (words.len() - 1) / block + 1;
-    let mut found = None;
-    'sets: for i in 0..blocks {
-        for j in first(spare, 2, i)..end(spare, 2, i) {
-            for k in first(spare, 3, j)..end(spare, 3, j) {
-                for l in first(spare, 4, k)..end(spare, 4, k) {
-                    found = without(words, block, &[i, j, k, l][0..spare], spare, message);
-                    if found.is_some() {
-                        break 'sets;
+// Sound words, of which so many may be off the message that is looked for.
+#[derive(Clone, Copy)]
+pub struct Search<'a> {
+    words: &'a [PartWord],
+    spare: usize,
+    ghost sound: { T (sound_in 251 (words_in words.now)) },
+    ghost few: { spare ≤ 4 },
+}
+
+impl<'a> Search<'a> {
+    // The search for a message of `size` numbers.
+    pub fn new(words: &'a [PartWord], size: usize) -> Search<'a>
+        requires { T (sound_in 251 (words_in words.now)) }
+        ensures words { result.words.now ≡ words.now }
+        ensures spare { result.spare ≡ spare_of (length words.now) size }
+    {
+        let spare = spare(words.len(), size);
+        Search { words, spare }
+    }
+
+    // How many words are off these numbers, if they are a message's and at most `spare` are.
+    fn near(&self, message: &[u32]) -> Option<usize>
+        ensures { result ≡ near_of self.now.spare self.now.words.now message.now }
+    {
+        if !is_message(message) {
+            return None;
+        }
+        let count = off(message, self.words);
+        (count <= self.spare).then_some(count)
+    }
+
+    // Tries the polynomial through the words kept: how many of all words are off it, if it is a message and at most `spare` are.
+    fn attempt(&self, kept: &[PartWord], message: &mut [u32]) -> Option<usize>
+        ensures { Tried (length message.old) self.now.spare self.now.words.now (NoneOn (length message.old) self.now.spare self.now.words.now kept.now) result message.new }
+    {
+        if !interpolate(kept, message) {
+            return None;
+        }
+        self.near(message)
+    }
+
+    // Tries the polynomial through the first words that are in none of the blocks left out.
+    fn without(&self, block: usize, out: &[usize], message: &mut [u32]) -> Option<usize>
+        requires block { 0 < block }
+        requires few { length message.old ≤ 251 }
+        requires enough { length message.old ≤ length (left_in block out.now 0 self.now.words.now) }
+        ensures { Tried (length message.old) self.now.spare self.now.words.now (Fails (length message.old) self.now.spare (words_in self.now.words.now) block out.now) result message.new }
+    {
+        let mut room = [PartWord { part: 0, value: 0 }; PARTS];
+        let kept = &mut room[..message.len()];
+        keep(self.words, block, out, kept);
+        self.attempt(kept, message)
+    }
+
+    // Tries the words left without each set of `spare` blocks, until a message is found: C(n, spare) polynomials at most, each in O(s²) products.
+    fn seek(&self, message: &mut [u32]) -> Option<usize>
+        requires some { 0 < self.now.spare }
+        requires enough { 2 * self.now.spare + length message.old ≤ length self.now.words.now }
+        ensures { Sought (length message.old) self.now.spare self.now.words.now result message.new }
+    {
+        let Search { words, spare } = *self;
+        let size = message.len();
+        let block = (words.len() - size) / spare;
+        let blocks = (words.len() - 1) / block + 1;
+        let mut found = None;
+        'sets: for i in 0..blocks {
+            for j in first(spare, 2, i)..end(spare, 2, i) {
+                for k in first(spare, 3, j)..end(spare, 3, j) {
+                    for l in first(spare, 4, k)..end(spare, 4, k) {
+                        found = self.without(block, &[i, j, k, l][0..spare], message);
+                        if found.is_some() {
+                            break 'sets;
+                        }
                     }
                 }
             }
         }
+        found
     }
-    found
+
+    // The message of the words, s or more: from the first s words, and else, if any may be off, by leaving out blocks of words.
+    pub fn find(&self, message: &mut [u32]) -> Option<usize>
+        requires enough { length message.old ≤ length self.now.words.now }
+        requires spare { self.now.spare ≡ spare_of (length self.now.words.now) (length message.old) }
+        ensures { Sought (length message.old) self.now.spare self.now.words.now result message.new }
+    {
+        let first = &self.words[..message.len()];
+        let found = self.attempt(first, message);
+        if found.is_some() || self.spare == 0 {
+            return found;
+        }
+        self.seek(message)
+    }
 }

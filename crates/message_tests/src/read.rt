@@ -168,17 +168,15 @@ fn one_number(rt: HostRuntime) -> Result<(), Fail> {
 // The words of a message of three numbers in the parts 0 to 12, of which so many are wrong from a place on.
 fn spoilt(from: usize, wrong: usize) -> [PartWord; 13] {
     let mut words = [PartWord { part: 0, value: 0 }; 13];
-    for (x, word) in words.iter_mut().enumerate() {
+    for (word, part) in words.iter_mut().zip(0..13) {
+        let x = usize::from(part);
         let said = word_at(&[10, 1_073_741_823, 7], x);
         let value = if from <= x && x - from < wrong {
             said / 3 + 5
         } else {
             said
         };
-        *word = PartWord {
-            part: x as u8,
-            value,
-        };
+        *word = PartWord { part, value };
     }
     words
 }
@@ -222,12 +220,10 @@ fn most_numbers(rt: HostRuntime) -> Result<(), Fail> {
     let channel = Channel::new(251, 1, 0)?;
     let message = [1_073_741_823; 251];
     let mut words = [PartWord { part: 0, value: 0 }; 251];
-    let mut part: u8 = 251;
-    for word in &mut words {
-        part = part.saturating_sub(1);
+    for (word, part) in words.iter_mut().zip((0..251).rev()) {
         *word = PartWord {
             part,
-            value: word_at(&message, part as usize),
+            value: word_at(&message, usize::from(part)),
         };
     }
     let mut left = [0; 251];

@@ -17,12 +17,10 @@ fn words_of_a_message(rt: HostRuntime) {
 fn polynomials_through_words(rt: HostRuntime) {
     let message = [2_147_483_646; 251];
     let mut words = [PartWord { part: 0, value: 0 }; 251];
-    let mut part: u8 = 251;
-    for word in &mut words {
-        part = part.saturating_sub(1);
+    for (word, part) in words.iter_mut().zip((0..251).rev()) {
         *word = PartWord {
             part,
-            value: word_at(&message, part as usize),
+            value: word_at(&message, usize::from(part)),
         };
     }
     let mut values = [0; 251];

@@ -1,7 +1,2 @@
--- Lemmas on messages and the polynomial through words.
-mod Horner
-mod Table
-mod Points
-mod Sound
-mod Left
-mod Listening
+-- Lemmas on what is read of words.
+pub mod Listening

@@ -1,16 +1,25 @@
 -- What was read is the only polynomial on the words, and where the polynomial through the first words is no message on all of them, none is.
-use Rattle.std.proofs.Common.{◌≡◌, ℕ, zero, suc, ◌<◌, ◌≤◌, Bool, true, false, ◌&&◌, T, ltb, List, [], ◌∷◌, length, take, drop, sym, refl, ap, subst, arith, lit≤, ltb→lt, lt→ltb}
-use Rattle.messages.proofs.Sound.{sound-take}
-use Rattle.messages.specs.Heard.{Reduced, words_in}
-use Rattle.messages.specs.Made.{Fits, Found}
-use Rattle.messages.specs.declared.words.PartWord.{PartWord}
+use Rattle.std.proofs.Common.{◌≡◌, ℕ, zero, suc, ◌<◌, ◌≤◌, Bool, true, false, ◌&&◌, T, ltb, List, [], ◌∷◌, length, get_or, take, drop, replicate, sym, refl, ap, ◌∙◌, subst, arith, lit≤, ltb→lt, lt→ltb}
+use Rattle.polynomials.proofs.Sound.{sound-take}
+use Rattle.polynomials.specs.Heard.{Reduced, word_of, words_in}
+use Rattle.messages.specs.Made.{Fits, Found, Zeros}
+use Rattle.polynomials.specs.declared.words.PartWord.{PartWord}
 use Rattle.speakall.proofs.Words.{agrees_off, only_one}
 use Rattle.speakall.specs.Code.{sound_in}
 use Rattle.speakall.specs.Frame.{agrees, p}
 use Rattle.speakall.specs.Plan.{below}
-use Rattle.std.proofs.lemmas.List.{length-take-le}
+use Rattle.std.proofs.lemmas.List.{length-map, length-take-le}
 use mir.Facts.{and_yes, yes_and}
 use Rattle.speakall.proofs.Truth.{from_true}
+
+-- memory filled with 0
+pub filled : (n : ℕ) (left : List ℕ) → left ≡ replicate n 0 → Zeros left
+filled n left e k = ap (λ (l : List ℕ). get_or l k 0) e ∙ zeros n k
+  where
+    zeros : (n k : ℕ) → ◌≡◌ {A = ℕ} (get_or (replicate n 0) k 0) 0
+    zeros zero k = refl
+    zeros (suc n) zero = refl
+    zeros (suc n) (suc k) = zeros n k
 
 pub not-false : (b : Bool) → false ≡ b → T b → ⊥
 not-false b e t = subst T (sym e) t
@@ -20,13 +29,13 @@ unfolding below
 below_more n [] le h = tt
 below_more n (a ∷ m) le h = let both = and_yes (ltb a n) (below n m) h in let lt : a < n = ltb→lt a n both.0 in yes_and _ _ (lt→ltb a p (omega arith)) (below_more n m le both.1)
 
-below_reduced : (m : List ℕ) → Reduced m → T (below p m)
+pub below_reduced : (m : List ℕ) → Reduced m → T (below p m)
 unfolding below
 below_reduced [] r = tt
 below_reduced (a ∷ m) r = yes_and _ _ (lt→ltb _ _ (r 0)) (below_reduced m (λ k. r (suc k)))
 
 -- all words are the first ones and the others
-agrees-take : (m : List ℕ) (n : ℕ) (ws : List PartWord) → T (agrees m (words_in ws)) → T (agrees m (words_in (take n ws))) × T (agrees m (words_in (drop n ws)))
+pub agrees-take : (m : List ℕ) (n : ℕ) (ws : List PartWord) → T (agrees m (words_in ws)) → T (agrees m (words_in (take n ws))) × T (agrees m (words_in (drop n ws)))
 unfolding agrees
 agrees-take m zero ws h = (tt, h)
 agrees-take m (suc n) [] h = (tt, tt)
@@ -38,20 +47,16 @@ agrees_from m zero ws g h = h
 agrees_from m (suc n) [] g h = tt
 agrees_from m (suc n) (w ∷ ws) g h = let both = and_yes _ _ g in yes_and _ _ both.0 (agrees_from m n ws both.1 h)
 
-pub length-words_in : (ws : List PartWord) → length (words_in ws) ≡ length ws
-length-words_in [] = refl
-length-words_in (w ∷ ws) = ap suc (length-words_in ws)
-
 -- two polynomials of s coefficients that lie on s or more sound words
 same : (q s : ℕ) (ws : List PartWord) (f g : List ℕ) → q < 252 → s ≤ length ws → T (sound_in q (words_in ws)) → length f ≡ s → length g ≡ s → T (below p f) → T (below p g) → T (agrees f (words_in ws)) → T (agrees g (words_in ws)) → f ≡ g
 same q s ws f g small le sound lf lg bf bg af ag =
-    only_one q small (words_in ws) sound s 0 (omega (arith, length-words_in ws)) f g lf lg bf bg (omega (arith, agrees_off f (words_in ws) af)) (omega (arith, agrees_off g (words_in ws) ag))
+    only_one q small (words_in ws) sound s 0 (omega (arith, length-map ws word_of)) f g lf lg bf bg (omega (arith, agrees_off f (words_in ws) af)) (omega (arith, agrees_off g (words_in ws) ag))
 
 -- f goes through the first s of the words, which are sound and enough: on it stands what is read, and whether
 module _ (q s : ℕ) (ws first others : List PartWord) (f : List ℕ) (small : q < 252) (le : s ≤ length ws) (long : length f ≡ s) (ef : first ≡ take s ws) (eo : others ≡ drop s ws) (on : T (agrees f (words_in first))) where
   pub found : true ≡ sound_in q (words_in ws) → true ≡ (below 1073741824 f && agrees f (words_in others)) → Found q s (words_in ws) f
   found sound fits =
-      let enough : s ≤ length (words_in ws) = omega (arith, length-words_in ws) in
+      let enough : s ≤ length (words_in ws) = omega (arith, length-map ws word_of) in
       let both = and_yes _ _ (from_true _ fits) in
       let ok = from_true _ sound in
       let all = agrees_from f s ws (rw ef at on) (rw eo at both.1) in

@@ -1,3 +1,2 @@
 -- What the code of messages promises, over the statements.
-pub mod Heard
 pub mod Made

@@ -1,13 +1,12 @@
 // What a listener makes of the words heard of one sender, whatever they are: it works the message out from the first words, and the others test it.
 ghost use Rattle.channels.specs.Settings.{settings};
-ghost use Rattle.messages.specs.Heard.{words_in};
-ghost use Rattle.messages.specs.Made.{Cleared, Made, Zeros, fault_of, read_of};
+ghost use Rattle.messages.specs.Made.{Cleared, Made, fault_of, read_of};
+ghost use Rattle.polynomials.specs.Heard.{words_in};
 ghost use Rattle.std.specs.Prelude.{◌≡◌, length};
 
-use crate::checks::{fits, is_sound};
-use crate::through::interpolate;
-use crate::words::PartWord;
+use crate::checks::fits;
 use channels::{Channel, Fault};
+use polynomials::{PartWord, interpolate, is_sound};
 
 // What the words of one sender come to.
 #[derive(Clone, Copy, PartialEq, Eq, Debug)]
@@ -33,20 +32,13 @@ impl Reading {
     }
 }
 
-// Makes every number 0.
-fn clear(message: &mut [u32])
-    ensures { Zeros message.new }
-{
-    message.fill(0);
-}
-
 // The reading of a sender's words on a channel; the message of s numbers goes to the lent memory, which has s places.
 // Whatever is not read leaves zeros there. O(s²) products for the polynomial through the first s words, s for each of the others to test it.
 pub fn read(channel: Channel, words: &[PartWord], message: &mut [u32]) -> Reading
     ensures made { Made (settings channel).q (length message.old) (words_in words.now) (read_of result message.new) }
     ensures cleared { Cleared result message.new }
 {
-    clear(message);
+    message.fill(0);
     let size = message.len();
     if words.len() < size {
         return Reading::TooFew(words.len());
@@ -54,13 +46,13 @@ pub fn read(channel: Channel, words: &[PartWord], message: &mut [u32]) -> Readin
     if !is_sound(channel.parts(), words) {
         return Reading::Doubtful;
     }
-    interpolate(&words[0..size], message);
-    if fits(message, &words[size..]) {
+    let (first, others) = words.split_at(size);
+    if interpolate(first, message) && fits(message, others) {
         return Reading::Message {
             words: words.len(),
             off: 0,
         };
     }
-    clear(message);
+    message.fill(0);
     Reading::Doubtful
 }

@@ -149,12 +149,10 @@ fn most_numbers(rt: HostRuntime) -> Result<(), Fail> {
     let channel = Channel::new(251, 1, 0)?;
     let message = [1_073_741_823; 251];
     let mut words = [PartWord { part: 0, value: 0 }; 251];
-    let mut part: u8 = 251;
-    for word in &mut words {
-        part = part.saturating_sub(1);
+    for (word, part) in words.iter_mut().zip((0..251).rev()) {
         *word = PartWord {
             part,
-            value: word_at(&message, part as usize),
+            value: word_at(&message, usize::from(part)),
         };
     }
     let mut left = [0; 251];

@@ -1,12 +1,12 @@
 -- What sound words are, one by one: the first, those left, and each of them against the first.
 -- And the loop that finds out from the last word on, with the parts seen so far marked.
-use Rattle.std.proofs.Common.{◌≡◌, ℕ, zero, suc, ◌+◌, ◌-◌, ◌<◌, ◌≤◌, Bool, true, false, not, ◌&&◌, ◌||◌, T, eqb, ltb, List, [], ◌∷◌, length, get_or, take, drop, set, replicate, sym, refl, ap, ◌∙◌, ⊎_elim, arith, ltb→lt, lt→ltb, T_not}
+use Rattle.std.proofs.Common.{◌≡◌, ℕ, zero, suc, ◌<◌, ◌≤◌, Bool, true, false, not, ◌&&◌, ◌||◌, T, eqb, ltb, List, [], ◌∷◌, length, get_or, take, drop, set, replicate, sym, refl, ap, ⊎_elim, arith, ltb→lt, lt→ltb, T_not}
 use Rattle.polynomials.specs.Heard.{part_at, words_in}
 use Rattle.polynomials.specs.declared.words.PartWord.{PartWord}
 use Rattle.speakall.proofs.Pigeonhole.{pigeonhole}
 use Rattle.speakall.specs.Code.{has_part, sound_in}
 use Rattle.speakall.specs.Frame.{p, Word}
-use Rattle.std.proofs.lemmas.List.{drop_all, drop_more, get_or-replicate, get_or-set_other, get_or-set_same, take_all}
+use Rattle.std.proofs.lemmas.List.{get_or-replicate, get_or-set_other, get_or-set_same, take_all}
 use Rattle.std.proofs.lemmas.Bool.{cases_eq, eq-eqb, ne_eqb}
 use lib.Dec.{eqb_refl}
 use mir.Facts.{and_yes, or_no, yes_and}
@@ -57,16 +57,13 @@ sound-drop q ws zero h = h
 sound-drop q [] (suc n) h = h
 sound-drop q (w ∷ ws) (suc n) h = sound-drop q ws n (sound_cons q _ _ h).3
 
-pub seen_none : (ws : List PartWord) (x : ℕ) → x < 256 → get_or (replicate 256 false) x false ≡ has_part x (words_in (drop (length ws) ws))
+pub seen_none : (x : ℕ) → x < 256 → get_or (replicate 256 false) x false ≡ has_part x []
 unfolding has_part
-seen_none ws x h = rw (get_or-replicate 256 x false false h, drop_all (length ws) ws (omega arith)) refl
+seen_none x h = get_or-replicate 256 x false false h
 
-pub sound_none : (q : ℕ) (ws : List PartWord) → sound_in q (words_in (drop (length ws) ws)) ≡ true
+pub sound_none : (q : ℕ) → sound_in q [] ≡ true
 unfolding sound_in
-sound_none q ws = rw (drop_all (length ws) ws (omega arith)) refl
-
-pub sound_all : (q i : ℕ) (ws : List PartWord) → i ≤ 0 → sound_in q (words_in (drop i ws)) ≡ true → true ≡ sound_in q (words_in ws)
-sound_all q i ws h e = let z : i ≡ 0 = omega arith in sym (rw z at e)
+sound_none q = refl
 
 neither : (a b : Bool) → T (not a) → T (not b) → T (not (a || b))
 neither true b g h = g
@@ -101,51 +98,47 @@ sound_few q ws h = pigeonhole q (length ws) (part_at ws) (λ i lt. part_at_lem q
     apart (w ∷ ws) h zero (suc j) a b e = apart_at w.part ws j (sound_cons q _ _ h).0 (omega arith) (sym e)
     apart (w ∷ ws) h (suc i) (suc j) a b e = apart ws (sound_cons q _ _ h).3 i j (omega arith) (omega arith) e
 
--- at i the word before the last ones, which are those from i on
-module _ (ws : List PartWord) (i : ℕ) (pos : 0 < i) (le : i ≤ length ws) where
-  back : drop (i - 1) ws ≡ get_or ws (i - 1) (record { part = 0; value = 0 }) ∷ drop i ws
-  back =
-      let lt : i - 1 < length ws = omega arith in
-      let e : i - 1 + 1 ≡ i = omega arith in
-      drop_more ws (i - 1) (record { part = 0; value = 0 }) lt ∙ ap (λ (n : ℕ). get_or ws (i - 1) (record { part = 0; value = 0 }) ∷ drop n ws) e
-
-  pub seen_more : (seen : List Bool) → length seen ≡ 256 → part_at ws (i - 1) < 256 → ((x : ℕ) → x < 256 → get_or seen x false ≡ has_part x (words_in (drop i ws))) → (x : ℕ) → x < 256 → get_or (set seen (part_at ws (i - 1)) true) x false ≡ has_part x (words_in (drop (i - 1) ws))
+-- one word more, before the others
+module _ (ws rest : List PartWord) (w : PartWord) (x : ℕ) (is : ws ≡ w ∷ rest) (part : x ≡ w.part) where
+  pub seen_more : (seen : List Bool) → length seen ≡ 256 → w.part < 256 → ((y : ℕ) → y < 256 → get_or seen y false ≡ has_part y (words_in rest)) → (y : ℕ) → y < 256 → get_or (set seen x true) y false ≡ has_part y (words_in ws)
   unfolding has_part
-  seen_more seen l in' marks x h = rw back (⊎_elim here other (cases_eq x (part_at ws (i - 1))))
+  seen_more seen l in' marks y h = rw (is, part) (⊎_elim here other (cases_eq y w.part))
     where
-      here : x ≡ part_at ws (i - 1) → get_or (set seen (part_at ws (i - 1)) true) x false ≡ (eqb x (part_at ws (i - 1)) || has_part x (words_in (drop i ws)))
-      here e = let f : part_at ws (i - 1) < length seen = omega arith in rw (eq-eqb x (part_at ws (i - 1)) e, e, get_or-set_same seen (part_at ws (i - 1)) true false f) refl
+      here : y ≡ w.part → get_or (set seen w.part true) y false ≡ (eqb y w.part || has_part y (words_in rest))
+      here e = let f : w.part < length seen = omega arith in rw (eq-eqb y w.part e, e, get_or-set_same seen w.part true false f) refl
 
-      other : (x ≡ part_at ws (i - 1) → ⊥) → get_or (set seen (part_at ws (i - 1)) true) x false ≡ (eqb x (part_at ws (i - 1)) || has_part x (words_in (drop i ws)))
-      other ne = rw (ne_eqb x (part_at ws (i - 1)) ne, get_or-set_other seen (part_at ws (i - 1)) x true false ne) (marks x h)
+      other : (y ≡ w.part → ⊥) → get_or (set seen w.part true) y false ≡ (eqb y w.part || has_part y (words_in rest))
+      other ne = rw (ne_eqb y w.part ne, get_or-set_other seen w.part y true false ne) (marks y h)
 
-  pub sound_more : (q : ℕ) → has_part (part_at ws (i - 1)) (words_in (drop i ws)) ≡ false → true ≡ (ltb (part_at ws (i - 1)) q && ltb (value_at ws (i - 1)) p) → sound_in q (words_in (drop i ws)) ≡ true → sound_in q (words_in (drop (i - 1) ws)) ≡ true
+  pub sound_more : (q : ℕ) → has_part w.part (words_in rest) ≡ false → true ≡ (ltb w.part q && ltb w.value p) → sound_in q (words_in rest) ≡ true → sound_in q (words_in ws) ≡ true
   unfolding sound_in
-  sound_more q new both s = rw (back, new, s) (good (ltb (part_at ws (i - 1)) q) (ltb (value_at ws (i - 1)) p) both)
+  sound_more q new both s = rw (is, new, s) (good (ltb w.part q) (ltb w.value p) both)
     where
       good : (a b : Bool) → true ≡ (a && b) → (a && b && true) ≡ true
       good true true e = refl
       good true false e = sym e
       good false b e = sym e
 
-  fails : (q : ℕ) → sound_in q (words_in (drop (i - 1) ws)) ≡ false → false ≡ sound_in q (words_in ws)
-  fails q e = first _ _ (sound-drop q ws (i - 1)) e
-    where
-      first : (a b : Bool) → (T a → T b) → b ≡ false → false ≡ a
-      first false b f e = refl
-      first true true f e = sym e
-      first true false f e = absurd (f tt)
+  -- where these are the last words of all, not all are sound
+  module _ (q n : ℕ) (all : List PartWord) (last : ws ≡ drop n all) where
+    fails : sound_in q (words_in ws) ≡ false → false ≡ sound_in q (words_in all)
+    fails e = first _ _ (sound-drop q all n) (rw last at e)
+      where
+        first : (a b : Bool) → (T a → T b) → b ≡ false → false ≡ a
+        first false b f e = refl
+        first true true f e = sym e
+        first true false f e = absurd (f tt)
 
-  pub sound_twice : (q : ℕ) → has_part (part_at ws (i - 1)) (words_in (drop i ws)) ≡ true → false ≡ sound_in q (words_in ws)
-  unfolding sound_in
-  sound_twice q has = fails q (rw (back, has) refl)
+    pub sound_twice : has_part w.part (words_in rest) ≡ true → false ≡ sound_in q (words_in all)
+    unfolding sound_in
+    sound_twice has = fails (rw (is, has) refl)
 
-  pub sound_off : (q : ℕ) → false ≡ (ltb (part_at ws (i - 1)) q && ltb (value_at ws (i - 1)) p) → false ≡ sound_in q (words_in ws)
-  unfolding sound_in
-  sound_off q off = fails q (rw back (bad (has_part (part_at ws (i - 1)) (words_in (drop i ws))) (ltb (part_at ws (i - 1)) q) (ltb (value_at ws (i - 1)) p) (sound_in q (words_in (drop i ws))) off))
-    where
-      bad : (h a b s : Bool) → false ≡ (a && b) → (not h && a && b && s) ≡ false
-      bad true a b s e = refl
-      bad false true true s e = ap (λ (t : Bool). t && s) (sym e)
-      bad false true false s e = refl
-      bad false false b s e = refl
+    pub sound_off : false ≡ (ltb w.part q && ltb w.value p) → false ≡ sound_in q (words_in all)
+    unfolding sound_in
+    sound_off off = fails (rw is (bad (has_part w.part (words_in rest)) (ltb w.part q) (ltb w.value p) (sound_in q (words_in rest)) off))
+      where
+        bad : (h a b s : Bool) → false ≡ (a && b) → (not h && a && b && s) ≡ false
+        bad true a b s e = refl
+        bad false true true s e = ap (λ (t : Bool). t && s) (sym e)
+        bad false true false s e = refl
+        bad false false b s e = refl

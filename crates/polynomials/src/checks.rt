@@ -1,9 +1,9 @@
 // What is asked of words before they are read, and of what was read from them: each with its answer as the statements have it.
 ghost use Rattle.polynomials.specs.Heard.{words_in};
 ghost use Rattle.speakall.specs.Code.{off_of, sound_in};
-ghost use Rattle.speakall.specs.Frame.{p, word_at};
+ghost use Rattle.speakall.specs.Frame.{p};
 ghost use Rattle.speakall.specs.Plan.{below};
-ghost use Rattle.std.specs.Prelude.{◌≡◌, ◌&&◌, if◌then◌else◌, nat_eq, nat_lt};
+ghost use Rattle.std.specs.Prelude.{◌≡◌, ◌&&◌, nat_lt};
 
 use crate::P;
 use crate::words::{PartWord, word_at};
@@ -23,24 +23,12 @@ pub fn is_sound(parts: u8, words: &[PartWord]) -> bool
     ensures { result ≡ sound_in parts (words_in words.now) }
 {
     let mut seen = [false; 256];
-    for i in (0..words.len()).rev() {
-        let word = words[i];
-        if seen[word.part as usize] || !is_word(parts, word) {
+    for &word in words.iter().rev() {
+        let part = usize::from(word.part);
+        if !is_word(parts, word) || seen[part] {
             return false;
         }
-        seen[word.part as usize] = true;
-    }
-    true
-}
-
-// Whether all values are below a limit.
-fn are_below(values: &[u32], limit: u32) -> bool
-    ensures { result ≡ below limit values.now }
-{
-    for value in values {
-        if *value >= limit {
-            return false;
-        }
+        seen[part] = true;
     }
     true
 }
@@ -49,27 +37,15 @@ fn are_below(values: &[u32], limit: u32) -> bool
 pub fn is_message(values: &[u32]) -> bool
     ensures { result ≡ below 1073741824 values.now }
 {
-    are_below(values, LIMIT)
-}
-
-// 1 for a word that a message is off, 0 for one on which it lies.
-fn miss(message: &[u32], word: PartWord) -> usize
-    ensures { result ≡ (if nat_eq (word_at message.now word.part) word.value then 0 else 1) }
-{
-    if word_at(message, word.part as usize) == word.value {
-        0
-    } else {
-        1
-    }
+    values.iter().all(|value| *value < LIMIT)
 }
 
 // How many of the words a message is off: O(s w) products.
 pub fn off(message: &[u32], words: &[PartWord]) -> usize
     ensures { result ≡ off_of message.now (words_in words.now) }
 {
-    let mut count = 0;
-    for word in words {
-        count += miss(message, *word);
-    }
-    count
+    words
+        .iter()
+        .filter(|word| word_at(message, usize::from(word.part)) != word.value)
+        .count()
 }

@@ -46,7 +46,7 @@ fn inverse(a: u8) -> u64
     requires { (0 < a) × (a < 251) }
     ensures { (result < p) × ((a * result) % p ≡ 1) }
 {
-    INVERSES[a as usize - 1] as u64
+    u64::from(INVERSES[usize::from(a) - 1])
 }
 
 // The inverse of the difference x - a of two parts, which may be negative: then it is minus the inverse of a - x.

@@ -18,9 +18,11 @@ fn slope(x: u8, y: u32, x0: u8, y0: u32) -> u32
     requires { (x < 251) × ((x0 < 251) × (((x ≢ x0)) × ((y < p) × (y0 < p)))) }
     ensures { (result < p) × Slope x y x0 y0 result }
 {
-    let rise = y as u64 + (P - y0 as u64);
+    let rise = u64::from(y) + (P - u64::from(y0));
     (rise * inverse_of_difference(x, x0) % P) as u32
 }
+
+// Words and values go side by side: each step lends a part of both to the next and then has the whole again, so a struct round them would be made and taken apart at each step.
 
 // Each value becomes the slope from the point (x₀, y₀) to the point of its word's part and itself.
 fn slopes(x0: u8, y0: u32, words: &[PartWord], values: &mut [u32])
@@ -31,8 +33,9 @@ fn slopes(x0: u8, y0: u32, words: &[PartWord], values: &mut [u32])
     ensures reduced { Reduced values.new }
     ensures slopes { (k : ℕ) → k < length words.now → Slope (part_at words.now k) (slice_index values.old k) x0 y0 (slice_index values.new k) }
 {
-    for i in 0..values.len() {
-        values[i] = slope(words[i].part, values[i], x0, y0);
+    // The words by place: of values lent by a `zip` nothing is known after the loop.
+    for (i, value) in values.iter_mut().enumerate() {
+        *value = slope(words[i].part, *value, x0, y0);
     }
 }
 
@@ -42,9 +45,10 @@ fn times(x0: u8, values: &mut [u32])
     ensures reduced { Reduced values.new }
     ensures product { Product x0 (slice_index values.old 0) (drop 1 values.old) values.new }
 {
-    let minus = P - x0 as u64;
+    let minus = P - u64::from(x0);
+    // By place: a coefficient needs the one after it, which an iterator over the same values cannot lend.
     for i in 1..values.len() {
-        values[i - 1] = ((values[i - 1] as u64 + minus * values[i] as u64) % P) as u32;
+        values[i - 1] = ((u64::from(values[i - 1]) + minus * u64::from(values[i])) % P) as u32;
     }
 }
 
@@ -73,8 +77,9 @@ fn fit(words: &[PartWord], values: &mut [u32])
     ensures reduced { Reduced values.new }
     ensures agrees { T (agrees values.new (words_in words.now)) }
 {
-    for i in 0..values.len() {
-        values[i] = words[i].value;
+    // The words by place: of values lent by a `zip` nothing is known after the loop.
+    for (i, value) in values.iter_mut().enumerate() {
+        *value = words[i].value;
     }
     through(words, values);
 }
@@ -88,7 +93,7 @@ fn can_fit(words: &[PartWord], count: usize) -> bool
 }
 
 // Whether the words are as many as the values, and sound: then the values become the coefficients of the polynomial on which the words lie,
-// in O(s²) products for s words, and otherwise they stay.
+// in O(s²) products for s words, and otherwise they stay. The answer is a bool: nothing is handed out beside it, and who asks goes on with the values.
 pub fn interpolate(words: &[PartWord], values: &mut [u32]) -> bool
     ensures { Fitted words.now values.old result values.new }
 {

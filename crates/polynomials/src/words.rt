@@ -18,8 +18,8 @@ fn value(message: &[u32], x: u64) -> u64
     ensures is { (y : ℕ) → x ≡ y % p → result ≡ word_at message.now y }
 {
     let mut value = 0;
-    for i in (0..message.len()).rev() {
-        value = (message[i] as u64 + x * value) % P;
+    for number in message.iter().rev() {
+        value = (u64::from(*number) + x * value) % P;
     }
     value
 }

@@ -1,7 +1,7 @@
--- The words copied and those still to come are all that are left.
-use Rattle.std.proofs.Common.{◌≡◌, ◌≤◌, ◌++◌, length, take, drop}
+-- The words copied are the first that are left.
+use Rattle.std.proofs.Common.{◌≡◌, length, take}
 use Rattle.damage.proofs.seek.keep.Given as goal
 use Rattle.readings.specs.Blocks.{left}
 
-abbrev pub invariant-loop-i : goal.invariant-loop-i
-invariant-loop-i l = (l.count ≤ length l.room) × (take l.count l.room ++ left l.block l.out l.i (drop l.i l.words) ≡ left l.block l.out 0 l.words)
+abbrev pub invariant-loop-place : goal.invariant-loop-place
+invariant-loop-place l = take (length l.yielded) l.room ≡ take (length l.yielded) (left l.fn.block l.out 0 l.words)

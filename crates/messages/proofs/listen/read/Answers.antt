@@ -1,59 +1,57 @@
 -- Each way to a reading.
-use Rattle.std.proofs.Common.{◌≡◌, ℕ, ◌-◌, ◌≤◌, List, length, take, drop, sym, refl, ap, ◌∙◌, arith, rules}
-use Rattle.messages.proofs.Listening.{found, length-words_in, none, not-false}
-use Rattle.speakall.proofs.Truth.{from_true}
-use Rattle.messages.proofs.Sound.{sound-take}
+use Rattle.std.proofs.Common.{◌≤◌, sym, refl, arith, rules}
+use Rattle.messages.proofs.Listening.{filled, found, none, not-false}
 use Rattle.messages.proofs.listen.read.Goals as goal
-use Rattle.messages.specs.declared.words.PartWord.{PartWord}
-use Rattle.std.proofs.lemmas.List.{take_rest}
-use native.Mathlib.Nat.{sub-zero}
-
--- the words through which the polynomial goes, and those that test it
-first : (ws : List PartWord) (n s : ℕ) → n ≡ s → take (n - 0) ws ≡ take s ws
-first ws n s e = rw (e, sub-zero s) refl
-
-others : (ws : List PartWord) (n s : ℕ) → n ≡ s → take (length ws - n) (drop n ws) ≡ drop s ws
-others ws n s e = take_rest ws n ∙ ap (λ (k : ℕ). drop k ws) e
+use Rattle.messages.proofs.listen.read.Goals.{else-interpolate-via-then-interpolate+else-fits, else-interpolate-via-else-interpolate}
+use Rattle.polynomials.proofs.Sound.{sound-take}
+use Rattle.polynomials.specs.Heard.{word_of}
+use Rattle.speakall.proofs.Truth.{from_true}
+use Rattle.std.proofs.lemmas.List.{length-map}
 
 pub returns-then-words-size : goal.returns-then-words-size
 returns-then-words-size c =
     record {
-      made = (sym (length-words_in _), omega (arith, length-words_in c.args.words.now, c.clear.auto.message));
-      cleared = c.clear.ensures;
+      made = (sym (length-map c.args.words.now word_of), omega (arith, length-map c.args.words.now word_of, c.fill.auto.self));
+      cleared = filled _ _ (c.fill.ensures.after (λ y e. e));
     }
 
 pub returns-then-not-is_sound : goal.returns-then-not-is_sound
 returns-then-not-is_sound c =
     record {
-      made = (omega (arith, length-words_in c.args.words.now, c.clear.auto.message), λ sound m fits. not-false _ (rw c.parts.ensures at c.if-not-is_sound.ensures) sound);
-      cleared = c.clear.ensures;
-    }
-
-pub interpolate-requires : goal.interpolate-requires
-interpolate-requires c =
-    let few : c.parts.result ≤ 251 = omega (arith, c.parts.ensures, c.args.channel.narrow) in
-    record {
-      long = search rules;
-      sound = sound-take _ 251 _ _ few (from_true _ c.if-not-is_sound.ensures);
+      made = (omega (arith, length-map c.args.words.now word_of, c.fill.auto.self), λ sound m fits. not-false _ (rw c.parts.ensures at c.if-not-is_sound.ensures) sound);
+      cleared = filled _ _ (c.fill.ensures.after (λ y e. e));
     }
 
 pub returns-then-fits : goal.returns-then-fits
 returns-then-fits c =
+    let first = rw c.fill.auto.self at c.split_at.ensures.front in
+    let others = rw c.fill.auto.self at c.split_at.ensures.back in
+    let fitted = c.if-interpolate.ensures in
     record {
       made = (
-        sym (length-words_in _),
+        sym (length-map c.args.words.now word_of),
         refl,
-        found _ _ c.args.words.now _ _ _ c.args.channel.narrow (search rules) (search rules) (first _ _ _ c.clear.auto.message) (others _ _ _ c.clear.auto.message) c.interpolate.ensures.agrees (rw c.parts.ensures at c.if-not-is_sound.ensures) c.if-fits.ensures,
+        found _ _ c.args.words.now _ _ _ c.args.channel.narrow (search rules) (search rules) first others fitted.3 (rw c.parts.ensures at c.if-not-is_sound.ensures) c.if-fits.ensures,
       );
       cleared = tt;
     }
 
 pub returns : goal.returns
 returns c =
+    let first = rw c.fill.auto.self at c.split_at.ensures.front in
+    let others = rw c.fill.auto.self at c.split_at.ensures.back in
+    let few : c.parts.result ≤ 251 = omega (arith, c.parts.ensures, c.args.channel.narrow) in
     record {
       made = (
-        omega (arith, length-words_in c.args.words.now, c.clear.auto.message),
-        none _ _ c.args.words.now _ _ _ c.args.channel.narrow (search rules) (search rules) (first _ _ _ c.clear.auto.message) (others _ _ _ c.clear.auto.message) c.interpolate.ensures.agrees c.interpolate.ensures.reduced c.if-fits.ensures,
+        omega (arith, length-map c.args.words.now word_of, c.fill.auto.self),
+        elim c.else-interpolate.branch [
+          | else-interpolate-via-then-interpolate+else-fits w ↦
+              let fitted = w.if-interpolate.ensures in
+              none _ _ c.args.words.now _ _ _ c.args.channel.narrow (search rules) (search rules) first others fitted.3 fitted.2 w.if-fits.ensures
+          | else-interpolate-via-else-interpolate w ↦
+              let unfitted = w.if-interpolate.ensures in
+              absurd (unfitted.1 c.split_at.ensures.front_len (rw c.split_at.ensures.front (sound-take _ 251 _ c.args.words.now few (from_true _ c.if-not-is_sound.ensures))))
+        ],
       );
-      cleared = c.clear-2.ensures;
+      cleared = filled _ _ (c.fill-2.ensures.after (λ y e. e));
     }

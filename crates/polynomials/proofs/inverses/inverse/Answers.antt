@@ -4,4 +4,4 @@ use Rattle.polynomials.proofs.Table.{inverse_at}
 use Rattle.polynomials.proofs.inverses.inverse.Goals as goal
 
 pub returns : goal.returns
-returns c = search (rules, inverse_at)
+returns c = rw (c.from-2.ensures, c.from.ensures) (search (rules, inverse_at))

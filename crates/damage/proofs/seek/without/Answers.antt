@@ -1,7 +1,0 @@
--- The words kept are the first s of those left.
-use Rattle.std.proofs.Common.{rules}
-use Rattle.damage.proofs.Trying.{front, tried-left}
-use Rattle.damage.proofs.seek.without.Goals as goal
-
-pub returns : goal.returns
-returns c = tried-left _ _ c.args.words.now _ _ _ _ _ c.requires.sound c.requires.enough (front _ _ _ _ c.keep.ensures (search rules) c.requires.enough) c.attempt.ensures

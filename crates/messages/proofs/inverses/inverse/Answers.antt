@@ -1,7 +1,0 @@
--- The whole table passes its test.
-use Rattle.std.proofs.Common.{rules}
-use Rattle.messages.proofs.Table.{inverse_at}
-use Rattle.messages.proofs.inverses.inverse.Goals as goal
-
-pub returns : goal.returns
-returns c = search (rules, inverse_at)

@@ -1,7 +1,0 @@
--- The rise times the inverse of the way.
-use Rattle.std.proofs.Common.{rules}
-use Rattle.messages.proofs.Points.{slope_is}
-use Rattle.messages.proofs.through.slope.Goals as goal
-
-pub returns : goal.returns
-returns c = search (rules, slope_is)

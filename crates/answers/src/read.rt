@@ -1,15 +1,11 @@
 // A message that was read: the byte 4, the frame (4), the sender (3), how many of its words were heard (1), how many of these
 // are off (1), how many numbers the message has (1), and the numbers (4 each).
-ghost use Rattle.std.specs.Prelude.{◌≡◌, ℕ, ◌+◌, ◌*◌, ◌^◌, ◌<◌, ◌≤◌, List, ◌++◌, length, IfOk, MatchResult};
+ghost use Rattle.std.specs.Prelude.{◌≡◌, ℕ, ◌+◌, ◌*◌, ◌^◌, ◌<◌, ◌≤◌, List, ◌++◌, length, IfOk, MatchResult, Ok};
 ghost use Rattle.channels.specs.declared.fault.Fault.TheVariants.{Sender as FaultSender};
 ghost use Rattle.answers.specs.Readings.{bytes_of_read, read_in, read_size};
-ghost use Rattle.records.specs.declared.found.Found.TheVariants.{Whole};
 
 use channels::Fault;
-use records::Found;
-
-// The kind of the record.
-const READ: u8 = 4;
+use records::{Kind, Unread, after_kind};
 
 // A sender's number has three bytes.
 pub const SENDERS: u32 = 16777216;
@@ -38,16 +34,17 @@ impl Read {
     fn laid_out(self) -> [u8; 11]
         ensures { result ≡ bytes_of_read self }
     {
+        let kind = Kind::Read.byte();
         let [a, b, c, d] = self.frame.to_be_bytes();
         let [_, e, f, g] = self.sender.to_be_bytes();
-        [READ, a, b, c, d, e, f, g, self.words, self.off, self.count]
+        [kind, a, b, c, d, e, f, g, self.words, self.off, self.count]
     }
 
     // The eleven bytes that stand before the numbers, or `Fault::Sender` for a sender of 2^24 or above.
     // With as many numbers after them as they say, the record is read back, whatever follows.
     pub fn to_bytes(self) -> Result<[u8; 11], Fault>
         ensures bytes { MatchResult result (λ bs. (self.sender < 2 ^ 24) × (bs ≡ bytes_of_read self)) (λ e. (e ≡ FaultSender) × (2 ^ 24 ≤ self.sender)) }
-        ensures back { IfOk result (λ bs. (more : List ℕ) → 4 * self.count ≤ length more → read_in (bs ++ more) ≡ Whole self) }
+        ensures back { IfOk result (λ bs. (more : List ℕ) → 4 * self.count ≤ length more → read_in (bs ++ more) ≡ Ok self) }
     {
         if self.sender >= SENDERS {
             return Err(Fault::Sender);
@@ -56,22 +53,17 @@ impl Read {
     }
 
     // What the record says that stands first in these bytes, with all its numbers: `Fault::Kind` for another kind.
-    pub fn first(bytes: &[u8]) -> Found<Read>
+    pub fn first(bytes: &[u8]) -> Result<Read, Unread>
         ensures { result ≡ read_in bytes.now }
     {
-        let Some(kind) = bytes.first() else {
-            return Found::Short;
-        };
-        if *kind != READ {
-            return Found::Wrong(Fault::Kind);
-        }
-        let [_, a, b, c, d, e, f, g, words, off, count, rest @ ..] = bytes else {
-            return Found::Short;
+        let [a, b, c, d, e, f, g, words, off, count, rest @ ..] = after_kind(Kind::Read, bytes)?
+        else {
+            return Err(Unread::Short);
         };
         if rest.len() < 4 * usize::from(*count) {
-            return Found::Short;
+            return Err(Unread::Short);
         }
-        Found::Whole(Read {
+        Ok(Read {
             frame: u32::from_be_bytes([*a, *b, *c, *d]),
             sender: u32::from_be_bytes([0, *e, *f, *g]),
             words: *words,

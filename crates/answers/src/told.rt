@@ -1,16 +1,12 @@
 // What is told of a frame in place of a message: the byte 5, the frame (4), the sender (3), the fault's number (1), and how many
 // words were heard of the sender (1). Where too many senders were heard, the sender and the count are 0.
-ghost use Rattle.std.specs.Prelude.{◌≡◌, ℕ, ◌^◌, ◌<◌, ◌≤◌, List, ◌++◌, IfOk, MatchResult};
+ghost use Rattle.std.specs.Prelude.{◌≡◌, ℕ, ◌^◌, ◌<◌, ◌≤◌, List, ◌++◌, IfOk, MatchResult, Ok};
 ghost use Rattle.channels.specs.declared.fault.Fault.TheVariants.{Sender as FaultSender};
-ghost use Rattle.answers.specs.Telling.{bytes_of_told, sender_of, telling_bytes, told_as, told_in};
-ghost use Rattle.records.specs.declared.found.Found.TheVariants.{Whole};
+ghost use Rattle.answers.specs.Telling.{Numbered, bytes_of_told, number_of, sender_of, telling_bytes, told_as, told_in};
 
 use crate::read::SENDERS;
 use channels::Fault;
-use records::Found;
-
-// The kind of the record.
-const TOLD: u8 = 5;
+use records::{Kind, Unread, after_kind};
 
 // What is told of a frame.
 #[derive(Clone, Copy, PartialEq, Eq, Debug)]
@@ -23,6 +19,41 @@ pub enum Telling {
     Crowded,
 }
 
+// Which of these is told, by the fault's number.
+#[derive(Clone, Copy, PartialEq, Eq, Debug)]
+enum Cause {
+    TooFew,
+    Doubtful,
+    Crowded,
+}
+
+impl Cause {
+    fn number(self) -> u8
+        ensures { result ≡ number_of self }
+    {
+        match self {
+            Cause::TooFew => 6,
+            Cause::Doubtful => 7,
+            Cause::Crowded => 8,
+        }
+    }
+}
+
+impl TryFrom<u8> for Cause {
+    type Error = Fault;
+
+    ghost try_from_gives = { Numbered };
+
+    fn try_from(number: u8) -> Result<Cause, Fault> {
+        match number {
+            6 => Ok(Cause::TooFew),
+            7 => Ok(Cause::Doubtful),
+            8 => Ok(Cause::Crowded),
+            _ => Err(Fault::Kind),
+        }
+    }
+}
+
 #[derive(Clone, Copy, PartialEq, Eq, Debug)]
 pub struct Told {
     pub frame: u32,
@@ -30,12 +61,13 @@ pub struct Told {
 }
 
 // The ten bytes of what is told.
-fn laid_out(frame: u32, sender: u32, number: u8, count: u8) -> [u8; 10]
-    ensures { result ≡ telling_bytes frame sender number count }
+fn laid_out(frame: u32, sender: u32, cause: Cause, count: u8) -> [u8; 10]
+    ensures { result ≡ telling_bytes frame sender (number_of cause) count }
 {
+    let kind = Kind::Told.byte();
     let [a, b, c, d] = frame.to_be_bytes();
     let [_, e, f, g] = sender.to_be_bytes();
-    [TOLD, a, b, c, d, e, f, g, number, count]
+    [kind, a, b, c, d, e, f, g, cause.number(), count]
 }
 
 impl Told {
@@ -44,8 +76,7 @@ impl Told {
         ensures { result ≡ sender_of self.telling }
     {
         match self.telling {
-            Telling::TooFew { sender, .. } => sender,
-            Telling::Doubtful { sender, .. } => sender,
+            Telling::TooFew { sender, .. } | Telling::Doubtful { sender, .. } => sender,
             Telling::Crowded => 0,
         }
     }
@@ -54,17 +85,18 @@ impl Told {
     fn bytes(self) -> [u8; 10]
         ensures { result ≡ bytes_of_told self }
     {
-        match self.telling {
-            Telling::TooFew { sender, count } => laid_out(self.frame, sender, 6, count),
-            Telling::Doubtful { sender, count } => laid_out(self.frame, sender, 7, count),
-            Telling::Crowded => laid_out(self.frame, 0, 8, 0),
+        let Told { frame, telling } = self;
+        match telling {
+            Telling::TooFew { sender, count } => laid_out(frame, sender, Cause::TooFew, count),
+            Telling::Doubtful { sender, count } => laid_out(frame, sender, Cause::Doubtful, count),
+            Telling::Crowded => laid_out(frame, 0, Cause::Crowded, 0),
         }
     }
 
     // The ten bytes of the record, or `Fault::Sender` for a sender of 2^24 or above. Whatever follows them, the record is read back.
     pub fn to_bytes(self) -> Result<[u8; 10], Fault>
         ensures bytes { MatchResult result (λ bs. (sender_of self.telling < 2 ^ 24) × (bs ≡ bytes_of_told self)) (λ e. (e ≡ FaultSender) × (2 ^ 24 ≤ sender_of self.telling)) }
-        ensures back { IfOk result (λ bs. (more : List ℕ) → told_in (bs ++ more) ≡ Whole self) }
+        ensures back { IfOk result (λ bs. (more : List ℕ) → told_in (bs ++ more) ≡ Ok self) }
     {
         if self.sender() >= SENDERS {
             return Err(Fault::Sender);
@@ -74,17 +106,11 @@ impl Told {
 
     // What is told first in these bytes: `Fault::Kind` for another kind, for a number that is not 6, 7 or 8, and for 8 with a
     // sender or a count.
-    pub fn first(bytes: &[u8]) -> Found<Told>
+    pub fn first(bytes: &[u8]) -> Result<Told, Unread>
         ensures { result ≡ told_in bytes.now }
     {
-        let Some(kind) = bytes.first() else {
-            return Found::Short;
-        };
-        if *kind != TOLD {
-            return Found::Wrong(Fault::Kind);
-        }
-        let [_, a, b, c, d, e, f, g, number, count, ..] = bytes else {
-            return Found::Short;
+        let [a, b, c, d, e, f, g, number, count, ..] = after_kind(Kind::Told, bytes)? else {
+            return Err(Unread::Short);
         };
         let frame = u32::from_be_bytes([*a, *b, *c, *d]);
         let sender = u32::from_be_bytes([0, *e, *f, *g]);
@@ -93,14 +119,14 @@ impl Told {
 }
 
 // What a number tells of a frame and a sender.
-fn told_as(frame: u32, sender: u32, number: u8, count: u8) -> Found<Told>
+fn told_as(frame: u32, sender: u32, number: u8, count: u8) -> Result<Told, Unread>
     ensures { result ≡ told_as frame sender number count }
 {
-    let telling = match number {
-        6 => Telling::TooFew { sender, count },
-        7 => Telling::Doubtful { sender, count },
-        8 if sender == 0 && count == 0 => Telling::Crowded,
-        _ => return Found::Wrong(Fault::Kind),
+    let telling = match Cause::try_from(number)? {
+        Cause::TooFew => Telling::TooFew { sender, count },
+        Cause::Doubtful => Telling::Doubtful { sender, count },
+        Cause::Crowded if sender == 0 && count == 0 => Telling::Crowded,
+        Cause::Crowded => return Err(Unread::Wrong(Fault::Kind)),
     };
-    Found::Whole(Told { frame, telling })
+    Ok(Told { frame, telling })
 }

@@ -3,6 +3,7 @@
 #![tactic(auto)]
 
 pub mod heard_reader;
+mod held;
 pub mod phase;
 pub mod together;
 

@@ -1,13 +1,13 @@
 -- A whole input: the record of a channel, and then records of one kind.
 -- Input, read_input; HeardIs, HeardInputIs, MessagesAre, MessageInputIs, no_channel. Assumes nothing.
-use Rattle.std.specs.Prelude.{◌≡◌, ℕ, List, [], drop, Some, None, vec_items, Option}
+use Rattle.std.specs.Prelude.{◌≡◌, ℕ, List, [], drop, Some, None, vec_items, Option, Ok, Err, Result}
 use Rattle.std.specs.List.{flat_map}
 use Rattle.channels.specs.declared.channel.Channel.{Channel}
 use Rattle.channels.specs.declared.fault.Fault.TheVariants.{Kind as FaultKind}
 use Rattle.channels.specs.Settings.{settings}
 use Rattle.records.specs.Channels.{channel_in}
-use Rattle.records.specs.declared.found.Found.{Found}
-use Rattle.records.specs.declared.found.Found.TheVariants.{Whole, Wrong, Short}
+use Rattle.records.specs.declared.unread.Unread.{Unread}
+use Rattle.records.specs.declared.unread.Unread.TheVariants.{Wrong, Short}
 use Rattle.records.specs.declared.heard.Heard.{Heard}
 use Rattle.reading.specs.declared.Stopped.{Stopped}
 use Rattle.reading.specs.Reading.{Format, Reading, cut_at, fault_at, read_from, stopped_at}
@@ -23,20 +23,20 @@ pub record Input (A : Type 0) : Type 0 where
   pub reading : Reading A
 
 -- with a channel, its records begin at byte 4; without one, nothing is read, and the fault is at byte 0
-abbrev pub input_from : {A : Type 0} → (statement.Channel → Format A) → List ℕ → Found statement.Channel → Input A
-input_from format bs (Whole c) = record { channel = Some c; reading = read_from (format c) 0 4 0 (drop 4 bs) }
-input_from format bs (Wrong f) = record { channel = None; reading = record { given = []; ending = fault_at f 0 } }
-input_from format bs Short = record { channel = None; reading = record { given = []; ending = cut_at 0 } }
+abbrev pub input_from : {A : Type 0} → (statement.Channel → Format A) → List ℕ → Result statement.Channel Unread → Input A
+input_from format bs (Ok c) = record { channel = Some c; reading = read_from (format c) 0 4 0 (drop 4 bs) }
+input_from format bs (Err (Wrong f)) = record { channel = None; reading = record { given = []; ending = fault_at f 0 } }
+input_from format bs (Err Short) = record { channel = None; reading = record { given = []; ending = cut_at 0 } }
 
 -- a whole input, whose records have a format by their channel
 abbrev pub read_input : {A : Type 0} → (statement.Channel → Format A) → List ℕ → Input A
 read_input format bs = input_from format bs (channel_in bs)
 
 -- where a reading stops that found no channel
-abbrev pub no_channel : Found Channel → Stopped
-no_channel (Whole c) = record { fault = FaultKind; byte = 0 }
-no_channel (Wrong f) = record { fault = f; byte = 0 }
-no_channel Short = record { fault = FaultKind; byte = 0 }
+abbrev pub no_channel : Result Channel Unread → Stopped
+no_channel (Ok c) = record { fault = FaultKind; byte = 0 }
+no_channel (Err (Wrong f)) = record { fault = f; byte = 0 }
+no_channel (Err Short) = record { fault = FaultKind; byte = 0 }
 
 -- the statement's channel of a channel, if there is one
 abbrev pub settings_if : Option Channel → Option statement.Channel

@@ -8,7 +8,7 @@ ghost use Rattle.std.specs.Prelude.{◌≡◌, MatchResult};
 use crate::no_channel::no_channel;
 use channels::{Channel, Fault};
 use reading::Stopped;
-use records::{Found, Heard, channel_first};
+use records::{Heard, channel_first};
 use std::alloc::Global;
 
 // The records of what was heard, up to the end of the bytes or the first fault.
@@ -34,22 +34,21 @@ fn heard_to_end(heap: Global, channel: Channel, bytes: &[u8]) -> Result<HeardRea
     let mut low: u64 = 0;
     let mut byte: u64 = 4;
     while !left.is_empty() {
-        let fault = match Heard::first(channel, low, left) {
-            Found::Whole(heard) => {
-                records.push(heard)?;
-                let size = heard.size();
-                left = &left[size..];
-                low = heard.place() + 1;
-                byte += size as u64;
-                continue;
+        let heard = match Heard::first(channel, low, left) {
+            Ok(heard) => heard,
+            Err(unread) => {
+                let fault = unread.fault();
+                return Ok(HeardRead {
+                    records,
+                    stopped: Some(Stopped { fault, byte }),
+                });
             }
-            Found::Wrong(fault) => fault,
-            Found::Short => Fault::Kind,
         };
-        return Ok(HeardRead {
-            records,
-            stopped: Some(Stopped { fault, byte }),
-        });
+        records.push(heard)?;
+        let size = heard.size();
+        left = &left[size..];
+        low = heard.place() + 1;
+        byte += size as u64;
     }
     Ok(HeardRead {
         records,
@@ -74,7 +73,7 @@ pub fn read_heard_input(heap: Global, bytes: &[u8]) -> Result<HeardInput, Fault>
     ensures { MatchResult result (λ i. HeardInputIs i (read_input (λ c. heard_format c.q) bytes.now)) (λ e. e ≡ FaultMemory) }
 {
     let found = channel_first(bytes);
-    let Found::Whole(channel) = found else {
+    let Ok(channel) = found else {
         return Ok(HeardInput {
             channel: None,
             heard: HeardRead {

@@ -11,7 +11,7 @@ ghost use Rattle.std.specs.Prelude.{◌≡◌, ◌++◌, MatchResult};
 use crate::no_channel::no_channel;
 use channels::{Channel, Fault};
 use reading::Stopped;
-use records::{Found, channel_first, message_first};
+use records::{channel_first, message_first};
 use std::alloc::Global;
 
 // The numbers of the messages, one message after the other, up to the end of the bytes or the first fault.
@@ -48,21 +48,20 @@ fn messages_to_end(heap: Global, channel: Channel, bytes: &[u8]) -> Result<Messa
     let mut left = bytes;
     let mut byte: u64 = 4;
     while !left.is_empty() {
-        let fault = match message_first(channel, left) {
-            Found::Whole(count) => {
-                let end = 2 + 4 * usize::from(count);
-                add_numbers(&mut numbers, &left[2..end])?;
-                left = &left[end..];
-                byte += end as u64;
-                continue;
+        let count = match message_first(channel, left) {
+            Ok(count) => count,
+            Err(unread) => {
+                let fault = unread.fault();
+                return Ok(MessageRead {
+                    numbers,
+                    stopped: Some(Stopped { fault, byte }),
+                });
             }
-            Found::Wrong(fault) => fault,
-            Found::Short => Fault::Kind,
         };
-        return Ok(MessageRead {
-            numbers,
-            stopped: Some(Stopped { fault, byte }),
-        });
+        let end = 2 + 4 * usize::from(count);
+        add_numbers(&mut numbers, &left[2..end])?;
+        left = &left[end..];
+        byte += end as u64;
     }
     Ok(MessageRead {
         numbers,
@@ -87,7 +86,7 @@ pub fn read_message_input(heap: Global, bytes: &[u8]) -> Result<MessageInput, Fa
     ensures { MatchResult result (λ i. MessageInputIs i (read_input (λ c. message_format (size c)) bytes.now)) (λ e. e ≡ FaultMemory) }
 {
     let found = channel_first(bytes);
-    let Found::Whole(channel) = found else {
+    let Ok(channel) = found else {
         return Ok(MessageInput {
             channel: None,
             messages: MessageRead {

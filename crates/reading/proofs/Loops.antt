@@ -1,16 +1,16 @@
 -- The turns of a loop that reads records: what was read, and then what is left.
--- loop-more, left_more, loop-wrong, loop-short, loop-none. Assumes nothing.
-use Rattle.std.proofs.Common.{◌≡◌, ℕ, ◌+◌, ◌-◌, ◌<◌, ◌≤◌, List, [], ◌∷◌, ◌++◌, length, take, drop, Some, None, sym, ap, ◌∙◌, arith}
+-- loop-more, left_more, loop-unread, loop-none. Assumes nothing.
+use Rattle.std.proofs.Common.{◌≡◌, ℕ, ◌+◌, ◌-◌, ◌<◌, ◌≤◌, List, [], ◌∷◌, ◌++◌, length, take, drop, Some, None, sym, ap, ◌∙◌, arith, Ok, Err}
 use Rattle.std.proofs.lemmas.List.{append_assoc, append-nil, length-drop, take_rest}
-use Rattle.channels.specs.declared.fault.Fault.{Fault}
-use Rattle.channels.specs.declared.fault.Fault.TheVariants.{Kind as FaultKind}
-use Rattle.records.specs.declared.found.Found.TheVariants.{Whole, Wrong, Short}
+use Rattle.records.specs.Faults.{fault_of}
+use Rattle.records.specs.declared.unread.Unread.{Unread}
+use Rattle.records.specs.declared.unread.Unread.TheVariants.{Wrong, Short}
 use Rattle.reading.specs.Reading.{Ending, Format, Reading, finished, cut_at, fault_at, onto, read_from, stopped_at}
 use Rattle.reading.proofs.Steps.{read_none, read_more, read_wrong, read_short}
 use Rattle.reading.proofs.Cuts.{Lawful}
 
 module _ {A : Type 0} (f : Format A) (law : Lawful f) (read : List A) (low byte : ℕ) (left : List ℕ) (all : Reading A) (so : onto read (read_from f low byte 0 left) ≡ all) where
-  pub loop-more : (more : List A) (low' size : ℕ) (x : A) → f.first low left ≡ Whole x → more ≡ read ++ (x ∷ []) → low' ≡ f.after x → size ≡ f.size x →
+  pub loop-more : (more : List A) (low' size : ℕ) (x : A) → f.first low left ≡ Ok x → more ≡ read ++ (x ∷ []) → low' ≡ f.after x → size ≡ f.size x →
       onto more (read_from f low' (byte + size) 0 (take (length left - size) (drop size left))) ≡ all
   loop-more more low' size x o m a s =
       let z = law.sized low left x o in
@@ -21,11 +21,9 @@ module _ {A : Type 0} (f : Format A) (law : Lawful f) (read : List A) (low byte 
   ended : (e : Ending) → read_from f low byte 0 left ≡ record { given = []; ending = e } → (read ≡ all.given) × (all.ending ≡ e)
   ended e h = (sym (append-nil read) ∙ ap (λ (r : Reading A). read ++ r.given) (sym h) ∙ ap (λ r. r.given) so, sym (ap (λ r. r.ending) so) ∙ ap (λ r. r.ending) h)
 
-  pub loop-wrong : (g : Fault) → 0 < length left → f.first low left ≡ Wrong g → (read ≡ all.given) × (Some (record { fault = g; byte = byte }) ≡ stopped_at all.ending)
-  loop-wrong g p o = let w = ended (fault_at g byte) (read_wrong f low byte left g p o) in (w.0, ap stopped_at (sym w.1))
-
-  pub loop-short : 0 < length left → f.first low left ≡ Short → (read ≡ all.given) × (Some (record { fault = FaultKind; byte = byte }) ≡ stopped_at all.ending)
-  loop-short p o = let w = ended (cut_at byte) (read_short f low byte left p o) in (w.0, ap stopped_at (sym w.1))
+  pub loop-unread : (u : Unread) → 0 < length left → f.first low left ≡ Err u → (read ≡ all.given) × (Some (record { fault = fault_of u; byte = byte }) ≡ stopped_at all.ending)
+  loop-unread (Wrong g) p o = let w = ended (fault_at g byte) (read_wrong f low byte left g p o) in (w.0, ap stopped_at (sym w.1))
+  loop-unread Short p o = let w = ended (cut_at byte) (read_short f low byte left p o) in (w.0, ap stopped_at (sym w.1))
 
   pub loop-none : length left ≡ 0 → (read ≡ all.given) × (None ≡ stopped_at all.ending)
   loop-none z = let w = ended finished (read_none f low byte left z) in (w.0, ap stopped_at (sym w.1))

@@ -1,16 +1,16 @@
 -- Records one after the other, read to their end or to the first fault.
 -- Format, Ending, Reading, stopped_at, onto, stepped, read_from; begun_before, FaultStays, LastLost. Assumes nothing.
-use Rattle.std.specs.Prelude.{◌≡◌, ℕ, zero, suc, ◌+◌, ◌-◌, ◌≤◌, List, [], ◌∷◌, ◌++◌, length, take, Some, None, Option}
+use Rattle.std.specs.Prelude.{◌≡◌, ℕ, zero, suc, ◌+◌, ◌-◌, ◌≤◌, List, [], ◌∷◌, ◌++◌, length, take, Some, None, Option, Ok, Err, Result}
 use Rattle.channels.specs.declared.fault.Fault.{Fault}
 use Rattle.channels.specs.declared.fault.Fault.TheVariants.{Kind as FaultKind}
-use Rattle.records.specs.declared.found.Found.{Found}
-use Rattle.records.specs.declared.found.Found.TheVariants.{Whole, Wrong, Short}
+use Rattle.records.specs.declared.unread.Unread.{Unread}
+use Rattle.records.specs.declared.unread.Unread.TheVariants.{Wrong, Short}
 use Rattle.reading.specs.declared.Stopped.{Stopped}
 
 -- how records of a kind are told apart: what stands first in some bytes, where the record's place must be low or above; how many
 -- bytes a record has; and the lowest place that the next may have
 pub record Format (A : Type 0) : Type 0 where
-  pub first : (low : ℕ) → List ℕ → Found A
+  pub first : (low : ℕ) → List ℕ → Result A Unread
   pub size : A → ℕ
   pub after : A → ℕ
 
@@ -37,10 +37,10 @@ abbrev pub onto : {A : Type 0} → List A → Reading A → Reading A
 onto xs r = record { given = xs ++ r.given; ending = r.ending }
 
 -- one step, with what is read after a record
-abbrev pub stepped : {A : Type 0} → (at : ℕ) → Found A → (A → Reading A) → Reading A
-stepped at (Whole x) rest = onto (x ∷ []) (rest x)
-stepped at (Wrong f) rest = record { given = []; ending = fault_at f at }
-stepped at Short rest = record { given = []; ending = cut_at at }
+abbrev pub stepped : {A : Type 0} → (at : ℕ) → Result A Unread → (A → Reading A) → Reading A
+stepped at (Ok x) rest = onto (x ∷ []) (rest x)
+stepped at (Err (Wrong f)) rest = record { given = []; ending = fault_at f at }
+stepped at (Err Short) rest = record { given = []; ending = cut_at at }
 
 -- the records in some bytes, of which the first stands at byte `at` of the input, after `skip` bytes that are left of the record before
 unfoldable pub read_from : {A : Type 0} → Format A → (low at skip : ℕ) → List ℕ → Reading A

@@ -1,9 +1,8 @@
 -- What is written is read back, whatever follows it.
 -- four_back, heard_back, channel_back, length_message, message_back. Assumes nothing.
-use Rattle.std.proofs.Common.{◌≡◌, ℕ, ◌+◌, ◌*◌, ◌/◌, ◌%◌, ◌^◌, ◌<◌, ◌≤◌, true, ◌&&◌, eqb, ltb, List, [], ◌∷◌, ◌++◌, length, take, sym, refl, ap, ◌∙◌, arith}
+use Rattle.std.proofs.Common.{◌≡◌, ℕ, ◌+◌, ◌*◌, ◌/◌, ◌%◌, ◌^◌, ◌<◌, ◌≤◌, true, ◌&&◌, eqb, ltb, List, [], ◌∷◌, ◌++◌, length, take, sym, refl, ap, ◌∙◌, arith, Ok}
 use Rattle.std.proofs.lemmas.Bool.{and_from, and_parts, eq-eqb, ltb-true}
 use Rattle.std.proofs.lemmas.List.{take_at, length-append}
-use Rattle.records.specs.declared.found.Found.TheVariants.{Whole}
 use Rattle.records.specs.declared.heard.What.{What}
 use Rattle.records.specs.declared.heard.What.TheVariants.{Word, Noise}
 use Rattle.records.specs.declared.heard.Heard.{Heard}
@@ -28,16 +27,16 @@ module _ (frame part slot : ℕ) (more : List ℕ) (h : frame < 2 ^ 32) where
   laid what = (3 ∷ (four_bytes frame ++ (part ∷ slot ∷ bytes_of_what what))) ++ more
 
   back : (what : What) → length (3 ∷ (four_bytes frame ++ (part ∷ slot ∷ bytes_of_what what))) ≡ what_size what →
-      Whole (record { frame = frame; part = part; slot = slot; what = what }) ≡ whole_in (laid what)
+      Ok (record { frame = frame; part = part; slot = slot; what = what }) ≡ whole_in (laid what)
   back (Word w) l =
       let twelve : length w ≡ 12 = omega arith in
       heard_made (laid (Word w)) frame (Word w) (Word (take 12 (w ++ more))) (four_back frame h) (ap Word (sym (take_at w more 12 twelve))) (heard-word (laid (Word w)) (simp length-append (omega arith)) refl refl)
   back Noise l = heard_made (laid Noise) frame Noise Noise (four_back frame h) refl (heard_noise (laid Noise) (omega arith) refl refl)
 
-pub heard_back : (h : Heard) (bs : List ℕ) → h.frame < 2 ^ 32 → bs ≡ bytes_of_heard h → length bs ≡ heard_size h → (more : List ℕ) → whole_in (bs ++ more) ≡ Whole h
+pub heard_back : (h : Heard) (bs : List ℕ) → h.frame < 2 ^ 32 → bs ≡ bytes_of_heard h → length bs ≡ heard_size h → (more : List ℕ) → whole_in (bs ++ more) ≡ Ok h
 heard_back h bs f e l more = rw e (sym (back h.frame h.part h.slot more f h.what (ap length (sym e) ∙ l)))
 
-pub channel_back : (c : Channel) (bs : List ℕ) → bs ≡ bytes_of_channel c.q c.d c.k → (more : List ℕ) → channel_in (bs ++ more) ≡ Whole (settings c)
+pub channel_back : (c : Channel) (bs : List ℕ) → bs ≡ bytes_of_channel c.q c.d c.k → (more : List ℕ) → channel_in (bs ++ more) ≡ Ok (settings c)
 channel_back c bs e more = rw e (first_then 1 4 (bytes_of_channel c.q c.d c.k ++ more) _ (omega arith) (simp length-append (omega arith)) refl ∙ rw c.valid refl)
 
 length_bytes : (ns : List ℕ) → length (bytes_of_numbers ns) ≡ 4 * length ns
@@ -59,12 +58,12 @@ numbers_back (n ∷ ns) s =
     cc
 
 -- and so is a message of them
-pub message_back : (s : ℕ) (ns more : List ℕ) → length ns ≡ s → are_small ns ≡ true → message_in s (bytes_of_message ns ++ more) ≡ Whole ns
+pub message_back : (s : ℕ) (ns more : List ℕ) → length ns ≡ s → are_small ns ≡ true → message_in s (bytes_of_message ns ++ more) ≡ Ok ns
 message_back s ns more h small =
     let bs = bytes_of_message ns ++ more in
     let four = length_bytes ns in
     let long : 2 + 4 * length ns ≤ length (bytes_of_message ns ++ more) = simp length-append (omega arith) in
-    let count : count_in (bytes_of_message ns ++ more) ≡ Whole (length ns) = sym (counted 2 2 (2 + 4 * length ns) bs (length ns) (omega arith) (omega arith) refl long) in
+    let count : count_in (bytes_of_message ns ++ more) ≡ Ok (length ns) = sym (counted 2 2 (2 + 4 * length ns) bs (length ns) (omega arith) (omega arith) refl long) in
     let numbers : numbers_of (take (4 * length ns) (bytes_of_numbers ns ++ more)) ≡ ns = ap numbers_of (take_at (bytes_of_numbers ns) more (4 * length ns) four) ∙ numbers_back ns small in
     let test : (eqb (length ns) s && are_small ns) ≡ true = and_from (eqb (length ns) s) (are_small ns) (eq-eqb (length ns) s h) small in
     rw (count, numbers, test) refl

@@ -1,13 +1,16 @@
 -- The record of what was heard in a slot that isn't silent.
--- place_of, after_heard, heard_size, bytes_of_heard, bytes_in, whole_in, ordered, heard_in. Assumes nothing.
-use Rattle.std.specs.Prelude.{ℕ, ◌+◌, ◌*◌, cond, ◌&&◌, List, [], ◌∷◌, ◌++◌, length, take, drop, ◌==◌, nat_le, nat_lt, slice_index}
+-- place_of, after_heard, heard_size, bytes_of_heard, said_byte, Decodes, bytes_in, whole_in, ordered, heard_in. Assumes nothing.
+use Rattle.std.specs.Prelude.{◌≡◌, ◌≢◌, ℕ, ◌+◌, ◌*◌, cond, ◌&&◌, List, [], ◌∷◌, ◌++◌, length, take, drop, ◌==◌, nat_le, nat_lt, slice_index, Ok, Err, Result, MatchResult}
+use Rattle.channels.specs.declared.fault.Fault.{Fault}
 use Rattle.channels.specs.declared.fault.Fault.TheVariants.{Kind as FaultKind, Order as FaultOrder}
 use Rattle.records.specs.Kinds.{of_kind}
-use Rattle.records.specs.declared.found.Found.{Found}
-use Rattle.records.specs.declared.found.Found.TheVariants.{Whole, Wrong, Short}
+use Rattle.records.specs.declared.unread.Unread.{Unread}
+use Rattle.records.specs.declared.unread.Unread.TheVariants.{Wrong, Short}
 use Rattle.records.specs.declared.heard.What.{What}
 use Rattle.records.specs.declared.heard.What.TheVariants.{Word, Noise}
 use Rattle.records.specs.declared.heard.Heard.{Heard}
+use Rattle.records.specs.declared.heard.Said.{Said}
+use Rattle.records.specs.declared.heard.Said.TheVariants.{Word as SaidWord, Noise as SaidNoise}
 use Rattle.records.specs.declared.heard.HeardBytes.{HeardBytes}
 use Rattle.records.specs.declared.heard.HeardBytes.TheVariants.{Word as WordBytes, Noise as NoiseBytes}
 use Rattle.records.specs.Numbers.{four_bytes, four_at}
@@ -36,6 +39,15 @@ bytes_of_what Noise = 2 ∷ []
 abbrev pub bytes_of_heard : Heard → List ℕ
 bytes_of_heard h = 3 ∷ (four_bytes h.frame ++ (h.part ∷ h.slot ∷ bytes_of_what h.what))
 
+-- the byte that says what was heard
+abbrev pub said_byte : Said → ℕ
+said_byte SaidWord = 1
+said_byte SaidNoise = 2
+
+-- what a byte says was heard; no other byte says anything
+abbrev pub Decodes : ℕ → Result Said Fault → Type 0
+Decodes b r = MatchResult r (λ said. b ≡ said_byte said) (λ e. (e ≡ FaultKind) × (b ≢ 1) × (b ≢ 2))
+
 -- the bytes in the two arrays that a record is given as
 abbrev pub bytes_in : HeardBytes → List ℕ
 bytes_in (WordBytes bs) = bs
@@ -46,21 +58,20 @@ abbrev pub headed : List ℕ → What → Heard
 headed bs what = record { frame = four_at 1 bs; part = slice_index bs 5; slot = slice_index bs 6; what = what }
 
 -- the record that stands first in some bytes, by its kind and length
-abbrev pub whole_in : List ℕ → Found Heard
+abbrev pub whole_in : List ℕ → Result Heard Unread
 whole_in bs =
     of_kind 3 8 bs
-    (cond (slice_index bs 7 == 1) (cond (nat_lt (length bs) 20) Short (Whole (headed bs (Word (take 12 (drop 8 bs))))))
-    (cond (slice_index bs 7 == 2) (Whole (headed bs Noise)) (Wrong FaultKind)))
+    (cond (slice_index bs 7 == 1) (cond (nat_lt (length bs) 20) (Err Short) (Ok (headed bs (Word (take 12 (drop 8 bs))))))
+    (cond (slice_index bs 7 == 2) (Ok (headed bs Noise)) (Err (Wrong FaultKind))))
 
 -- a record whose part and slot are there, of q, and whose place is low or above
-abbrev pub ordered : (q low : ℕ) → Heard → Found Heard
-ordered q low h = cond (nat_lt h.part q && nat_lt h.slot q && nat_le low (place_of h)) (Whole h) (Wrong FaultOrder)
+abbrev pub ordered : (q low : ℕ) → Heard → Result Heard Unread
+ordered q low h = cond (nat_lt h.part q && nat_lt h.slot q && nat_le low (place_of h)) (Ok h) (Err (Wrong FaultOrder))
 
-abbrev pub in_order : (q low : ℕ) → Found Heard → Found Heard
-in_order q low (Whole h) = ordered q low h
-in_order q low (Wrong f) = Wrong f
-in_order q low Short = Short
+abbrev pub in_order : (q low : ℕ) → Result Heard Unread → Result Heard Unread
+in_order q low (Ok h) = ordered q low h
+in_order q low (Err e) = Err e
 
 -- the record that stands first in some bytes: whole by its kind and length first, and then in its place
-abbrev pub heard_in : (q low : ℕ) → List ℕ → Found Heard
+abbrev pub heard_in : (q low : ℕ) → List ℕ → Result Heard Unread
 heard_in q low bs = in_order q low (whole_in bs)

@@ -2,45 +2,34 @@
 
 ghost use Rattle.records.specs.Channels.{bytes_of_channel, channel_in, settled};
 ghost use Rattle.channels.specs.Settings.{settings};
-ghost use Rattle.records.specs.declared.found.Found.TheVariants.{Whole};
-ghost use Rattle.std.specs.Prelude.{◌≡◌, ℕ, List, ◌++◌};
+ghost use Rattle.std.specs.Prelude.{◌≡◌, ℕ, List, ◌++◌, Ok};
 
-use crate::found::Found;
-use channels::{Channel, Fault};
-
-// The kind of the record.
-const CHANNEL: u8 = 1;
+use crate::kind::{Kind, after_kind};
+use crate::unread::Unread;
+use channels::Channel;
 
 // The four bytes, in their order.
 fn laid_out(channel: Channel) -> [u8; 4]
     ensures { result ≡ bytes_of_channel channel.q channel.d channel.k }
 {
-    [CHANNEL, channel.parts(), channel.digits(), channel.others()]
+    let kind = Kind::Channel.byte();
+    [kind, channel.parts(), channel.digits(), channel.others()]
 }
 
 // The four bytes of a channel. Whatever follows them, the channel is read back.
 pub fn channel_bytes(channel: Channel) -> [u8; 4]
     ensures bytes { result ≡ bytes_of_channel channel.q channel.d channel.k }
-    ensures back { (more : List ℕ) → channel_in (result ++ more) ≡ Whole (settings channel) }
+    ensures back { (more : List ℕ) → channel_in (result ++ more) ≡ Ok (settings channel) }
 {
     laid_out(channel)
 }
 
 // The channel that stands first in these bytes: `Fault::Kind` for another kind, `Fault::Channel` for numbers that make no channel.
-pub fn channel_first(bytes: &[u8]) -> Found<Channel>
+pub fn channel_first(bytes: &[u8]) -> Result<Channel, Unread>
     ensures { settled result ≡ channel_in bytes.now }
 {
-    let Some(kind) = bytes.first() else {
-        return Found::Short;
+    let [q, d, k, ..] = after_kind(Kind::Channel, bytes)? else {
+        return Err(Unread::Short);
     };
-    if *kind != CHANNEL {
-        return Found::Wrong(Fault::Kind);
-    }
-    let [_, q, d, k, ..] = bytes else {
-        return Found::Short;
-    };
-    match Channel::new(*q, *d, *k) {
-        Ok(channel) => Found::Whole(channel),
-        Err(fault) => Found::Wrong(fault),
-    }
+    Ok(Channel::new(*q, *d, *k)?)
 }

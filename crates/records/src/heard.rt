@@ -1,19 +1,12 @@
 // What was heard in a slot that isn't silent: the byte 3, the frame (4), the part (1), the slot (1), what it was
 // (1: 1 a word, 2 noise), and the twelve bytes of a word.
-ghost use Rattle.std.specs.Prelude.{◌≡◌, ℕ, ◌<◌, List, [], ◌∷◌, ◌++◌, length, take, MatchOption};
-ghost use Rattle.records.specs.Hearing.{bytes_in, bytes_of_heard, heard_in, heard_size, ordered, place_of, whole_in};
+ghost use Rattle.std.specs.Prelude.{◌≡◌, ℕ, List, [], ◌∷◌, ◌++◌, length, Ok};
+ghost use Rattle.records.specs.Hearing.{Decodes, bytes_in, bytes_of_heard, heard_in, heard_size, ordered, place_of, said_byte, whole_in};
 ghost use Rattle.records.specs.Numbers.{four_bytes};
-ghost use Rattle.records.specs.declared.found.Found.TheVariants.{Whole};
 
-use crate::found::Found;
+use crate::kind::{Kind, after_kind};
+use crate::unread::Unread;
 use channels::{Channel, Fault};
-
-// The kind of the record, and what was heard.
-const HEARD: u8 = 3;
-
-const WORD: u8 = 1;
-
-const NOISE: u8 = 2;
 
 #[derive(Clone, Copy, PartialEq, Eq, Debug)]
 pub enum What {
@@ -38,38 +31,50 @@ pub enum HeardBytes {
     Noise([u8; 8]),
 }
 
-// The twelve bytes of a word that these bytes begin with; none where there are fewer.
-fn word_in(bytes: &[u8]) -> Option<[u8; 12]>
-    ensures { MatchOption result (length bytes.now < 12) (λ w. w ≡ take 12 bytes.now) }
-{
-    let [a, b, c, d, e, f, g, h, i, j, k, l, ..] = bytes else {
-        return None;
-    };
-    Some([*a, *b, *c, *d, *e, *f, *g, *h, *i, *j, *k, *l])
+// What a record says was heard, by its byte.
+#[derive(Clone, Copy, PartialEq, Eq, Debug)]
+enum Said {
+    Word,
+    Noise,
+}
+
+impl Said {
+    fn byte(self) -> u8
+        ensures { result ≡ said_byte self }
+    {
+        match self {
+            Said::Word => 1,
+            Said::Noise => 2,
+        }
+    }
+}
+
+impl TryFrom<u8> for Said {
+    type Error = Fault;
+
+    ghost try_from_gives = { Decodes };
+
+    fn try_from(byte: u8) -> Result<Said, Fault> {
+        match byte {
+            1 => Ok(Said::Word),
+            2 => Ok(Said::Noise),
+            _ => Err(Fault::Kind),
+        }
+    }
 }
 
 // The record that stands first in these bytes, by its kind and length.
-fn whole_in(bytes: &[u8]) -> Found<Heard>
+fn whole_in(bytes: &[u8]) -> Result<Heard, Unread>
     ensures { result ≡ whole_in bytes.now }
 {
-    let Some(kind) = bytes.first() else {
-        return Found::Short;
+    let [a, b, c, d, part, slot, said, rest @ ..] = after_kind(Kind::Heard, bytes)? else {
+        return Err(Unread::Short);
     };
-    if *kind != HEARD {
-        return Found::Wrong(Fault::Kind);
-    }
-    let [_, a, b, c, d, part, slot, said, rest @ ..] = bytes else {
-        return Found::Short;
+    let what = match Said::try_from(*said)? {
+        Said::Word => What::Word(*rest.first_chunk().ok_or(Unread::Short)?),
+        Said::Noise => What::Noise,
     };
-    let what = match *said {
-        WORD => match word_in(rest) {
-            Some(word) => What::Word(word),
-            None => return Found::Short,
-        },
-        NOISE => What::Noise,
-        _ => return Found::Wrong(Fault::Kind),
-    };
-    Found::Whole(Heard {
+    Ok(Heard {
         frame: u32::from_be_bytes([*a, *b, *c, *d]),
         part: *part,
         slot: *slot,
@@ -79,6 +84,7 @@ fn whole_in(bytes: &[u8]) -> Found<Heard>
 
 impl Heard {
     // The place of the record in the order of frame, part and slot.
+    // A number: the lowest place that the next record may have is one more, which a struct of the three could only say by carries.
     pub fn place(self) -> u64
         ensures { result ≡ place_of self }
     {
@@ -96,34 +102,31 @@ impl Heard {
     }
 
     // The record if its part and slot are there and its place is `low` or above; else `Fault::Order`.
-    fn checked(self, channel: Channel, low: u64) -> Found<Heard>
+    fn checked(self, channel: Channel, low: u64) -> Result<Heard, Unread>
         ensures { result ≡ ordered channel.q low self }
     {
         if self.part < channel.parts() && self.slot < channel.parts() && self.place() >= low {
-            Found::Whole(self)
+            Ok(self)
         } else {
-            Found::Wrong(Fault::Order)
+            Err(Unread::Wrong(Fault::Order))
         }
     }
 
     // The record that stands first in these bytes on a channel, where its place must be `low` or above: `Fault::Kind` for
     // another kind, and then `Fault::Order`.
-    pub fn first(channel: Channel, low: u64, bytes: &[u8]) -> Found<Heard>
+    pub fn first(channel: Channel, low: u64, bytes: &[u8]) -> Result<Heard, Unread>
         ensures { result ≡ heard_in channel.q low bytes.now }
     {
-        match whole_in(bytes) {
-            Found::Whole(heard) => heard.checked(channel, low),
-            Found::Wrong(fault) => Found::Wrong(fault),
-            Found::Short => Found::Short,
-        }
+        whole_in(bytes)?.checked(channel, low)
     }
 
     // The eight bytes that stand before a word, and that noise has alone.
-    fn head(self, what: u8) -> [u8; 8]
-        ensures { result ≡ 3 ∷ (four_bytes self.frame ++ (self.part ∷ self.slot ∷ what ∷ [])) }
+    fn head(self, said: Said) -> [u8; 8]
+        ensures { result ≡ 3 ∷ (four_bytes self.frame ++ (self.part ∷ self.slot ∷ said_byte said ∷ [])) }
     {
+        let kind = Kind::Heard.byte();
         let [a, b, c, d] = self.frame.to_be_bytes();
-        [HEARD, a, b, c, d, self.part, self.slot, what]
+        [kind, a, b, c, d, self.part, self.slot, said.byte()]
     }
 
     // The bytes of the record, in their order.
@@ -132,8 +135,8 @@ impl Heard {
         ensures size { length (bytes_in result) ≡ heard_size self }
     {
         match self.what {
-            What::Word(word) => HeardBytes::Word(joined(self.head(WORD), word)),
-            What::Noise => HeardBytes::Noise(self.head(NOISE)),
+            What::Word(word) => HeardBytes::Word(joined(self.head(Said::Word), word)),
+            What::Noise => HeardBytes::Noise(self.head(Said::Noise)),
         }
     }
 
@@ -141,7 +144,7 @@ impl Heard {
     pub fn to_bytes(self) -> HeardBytes
         ensures bytes { bytes_in result ≡ bytes_of_heard self }
         ensures size { length (bytes_in result) ≡ heard_size self }
-        ensures back { (more : List ℕ) → whole_in (bytes_in result ++ more) ≡ Whole self }
+        ensures back { (more : List ℕ) → whole_in (bytes_in result ++ more) ≡ Ok self }
     {
         self.laid_out()
     }
@@ -151,7 +154,8 @@ impl Heard {
 fn joined(head: [u8; 8], word: [u8; 12]) -> [u8; 20]
     ensures { result ≡ head ++ word }
 {
-    let [a, b, c, d, e, f, g, h] = head;
-    let [i, j, k, l, m, n, o, p, q, r, s, t] = word;
-    [a, b, c, d, e, f, g, h, i, j, k, l, m, n, o, p, q, r, s, t]
+    let mut bytes = [0; 20];
+    bytes[..8].copy_from_slice(&head);
+    bytes[8..].copy_from_slice(&word);
+    bytes
 }

@@ -3,13 +3,15 @@
 #![tactic(auto)]
 
 pub mod channel_record;
-pub mod found;
 pub mod heard;
+pub mod kind;
 pub mod message;
 pub mod numbers;
+pub mod unread;
 
 pub use channel_record::{channel_bytes, channel_first};
-pub use found::Found;
 pub use heard::{Heard, HeardBytes, What};
+pub use kind::{Kind, after_kind};
 pub use message::{message_first, message_head};
 pub use numbers::are_small;
+pub use unread::Unread;

@@ -1,56 +1,44 @@
 // A message to a sender: the byte 2, how many numbers it has (1), and the numbers (4 each).
 ghost use Rattle.channels.specs.Settings.{settings};
 ghost use Rattle.records.specs.Messages.{count_in, message_in, numbers_after};
-ghost use Rattle.records.specs.declared.found.Found.TheVariants.{Short, Whole, Wrong};
 ghost use Rattle.speakall.specs.Plan.{size};
-ghost use Rattle.std.specs.Prelude.{◌≡◌, [], ◌∷◌};
+ghost use Rattle.std.specs.Prelude.{◌≡◌, [], ◌∷◌, IfOk};
 
-use crate::found::Found;
+use crate::kind::{Kind, after_kind};
 use crate::numbers::are_small;
+use crate::unread::Unread;
 use channels::{Channel, Fault};
-
-// The kind of the record.
-const MESSAGE: u8 = 2;
 
 // The two bytes that stand before the numbers of a message.
 pub fn message_head(count: u8) -> [u8; 2]
     ensures { result ≡ 2 ∷ count ∷ [] }
 {
-    [MESSAGE, count]
+    [Kind::Message.byte(), count]
 }
 
 // How many numbers the message has that stands first in these bytes, by its kind and length.
-fn count_in(bytes: &[u8]) -> Found<u8>
+fn count_in(bytes: &[u8]) -> Result<u8, Unread>
     ensures { result ≡ count_in bytes.now }
 {
-    let Some(kind) = bytes.first() else {
-        return Found::Short;
-    };
-    if *kind != MESSAGE {
-        return Found::Wrong(Fault::Kind);
-    }
-    let [_, count, rest @ ..] = bytes else {
-        return Found::Short;
+    let [count, rest @ ..] = after_kind(Kind::Message, bytes)? else {
+        return Err(Unread::Short);
     };
     if rest.len() < 4 * usize::from(*count) {
-        return Found::Short;
+        return Err(Unread::Short);
     }
-    Found::Whole(*count)
+    Ok(*count)
 }
 
 // How many numbers the message has that stands first in these bytes: `Fault::Kind` for another kind, and then `Fault::Message`
 // where it has not as many numbers as the channel's messages, or one of 2^30 or above.
-pub fn message_first(channel: Channel, bytes: &[u8]) -> Found<u8>
+pub fn message_first(channel: Channel, bytes: &[u8]) -> Result<u8, Unread>
     ensures numbers { numbers_after bytes.now result ≡ message_in (size (settings channel)) bytes.now }
-    ensures count { elim result [ Whole n ↦ n ≡ size (settings channel) | Wrong _ ↦ Unit {0} | Short ↦ Unit {0} ] }
+    ensures count { IfOk result (λ n. n ≡ size (settings channel)) }
 {
-    let found = count_in(bytes);
-    let Found::Whole(count) = found else {
-        return found;
-    };
+    let count = count_in(bytes)?;
     if count == channel.numbers() && are_small(&bytes[2..2 + 4 * usize::from(count)]) {
-        Found::Whole(count)
+        Ok(count)
     } else {
-        Found::Wrong(Fault::Message)
+        Err(Unread::Wrong(Fault::Message))
     }
 }

@@ -1,8 +1,7 @@
 -- Records that are read back as they were written.
 -- InOrder, ReadBack, MessagesBack. Assumes nothing.
-use Rattle.std.specs.Prelude.{◌≡◌, ℕ, ◌+◌, ◌<◌, ◌≤◌, true, List, [], ◌∷◌, ◌++◌, length}
+use Rattle.std.specs.Prelude.{◌≡◌, ℕ, ◌+◌, ◌<◌, ◌≤◌, true, List, [], ◌∷◌, ◌++◌, length, Ok}
 use Rattle.std.specs.List.{flat_map, AllByRecursion}
-use Rattle.records.specs.declared.found.Found.TheVariants.{Whole}
 use Rattle.records.specs.declared.heard.Heard.{Heard}
 use Rattle.records.specs.Hearing.{bytes_of_heard, heard_size, place_of, whole_in}
 use Rattle.records.specs.Messages.{bytes_of_message}
@@ -17,7 +16,7 @@ InOrder q low (h ∷ hs) = (h.part < q) × (h.slot < q) × (low ≤ place_of h) 
 
 -- the bytes of what was heard are as many as it has, and whatever follows them, they are read as it
 abbrev pub ReadBack : Heard → Type 0
-ReadBack h = (length (bytes_of_heard h) ≡ heard_size h) × ((more : List ℕ) → whole_in (bytes_of_heard h ++ more) ≡ Whole h)
+ReadBack h = (length (bytes_of_heard h) ≡ heard_size h) × ((more : List ℕ) → whole_in (bytes_of_heard h ++ more) ≡ Ok h)
 
 -- messages of s numbers, each below 2^30, written one after the other, are read as they were, to the end
 abbrev pub MessagesBack : Type 0

@@ -40,9 +40,7 @@ fn write_all(out: &mut Vec<u8>, records: &[Heard]) -> Result<(), Fault>
     ensures back { OnOk result (AllByRecursion ReadBack records.now) }
 {
     for heard in records {
-        if let Err(fault) = write_heard(out, *heard) {
-            return Err(fault);
-        }
+        write_heard(out, *heard)?;
     }
     Ok(())
 }

@@ -14,9 +14,7 @@ fn begin_message(out: &mut Vec<u8>, count: u8, numbers: &[u32]) -> Result<(), Fa
     requires { length numbers.now ≡ count }
     ensures { Begun result out.old.items (bytes_of_message numbers.now) out.new.items }
 {
-    if let Err(fault) = put(out, &message_head(count)) {
-        return Err(fault);
-    }
+    put(out, &message_head(count))?;
     put_numbers(out, numbers)
 }
 

@@ -18,9 +18,7 @@ pub fn put_numbers(out: &mut Vec<u8>, numbers: &[u32]) -> Result<(), Fault>
     ensures { Begun result out.old.items (bytes_of_numbers numbers.now) out.new.items }
 {
     for number in numbers {
-        if let Err(fault) = put(out, &number.to_be_bytes()) {
-            return Err(fault);
-        }
+        put(out, &number.to_be_bytes())?;
     }
     Ok(())
 }

@@ -15,19 +15,14 @@ use channels::Fault;
 pub fn write_told(out: &mut Vec<u8>, told: Told) -> Result<(), Fault>
     ensures { PutOr (λ e. (e ≡ FaultSender) × (2 ^ 24 ≤ sender_of told.telling)) result out.old.items (bytes_of_told told) out.new.items }
 {
-    match told.to_bytes() {
-        Ok(bytes) => put(out, &bytes),
-        Err(fault) => Err(fault),
-    }
+    put(out, &told.to_bytes()?)
 }
 
 // Writes these bytes and the numbers after them; where memory fails, some of it.
 fn begin_read(out: &mut Vec<u8>, head: &[u8], numbers: &[u32]) -> Result<(), Fault>
     ensures { Begun result out.old.items (head.now ++ bytes_of_numbers numbers.now) out.new.items }
 {
-    if let Err(fault) = put(out, head) {
-        return Err(fault);
-    }
+    put(out, head)?;
     put_numbers(out, numbers)
 }
 
@@ -36,10 +31,7 @@ fn begin_read(out: &mut Vec<u8>, head: &[u8], numbers: &[u32]) -> Result<(), Fau
 pub fn write_read(out: &mut Vec<u8>, read: Read, numbers: &[u32]) -> Result<(), Fault>
     ensures { PutOr (λ e. ((e ≡ FaultSender) × (2 ^ 24 ≤ read.sender)) ⊎ ((e ≡ FaultMessage) × (length numbers.now ≢ read.count))) result out.old.items (bytes_of_read read ++ bytes_of_numbers numbers.now) out.new.items }
 {
-    let head = match read.to_bytes() {
-        Ok(head) => head,
-        Err(fault) => return Err(fault),
-    };
+    let head = read.to_bytes()?;
     if numbers.len() != usize::from(read.count) {
         return Err(Fault::Message);
     }

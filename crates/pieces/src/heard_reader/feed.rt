@@ -11,16 +11,6 @@ use channels::{Channel, Fault};
 use reading::Stopped;
 use records::Heard;
 
-// A record more, if there is one; without memory for it, none.
-fn keep(records: &mut Vec<Heard>, heard: Option<Heard>) -> Result<(), Fault>
-    ensures { MatchResult result (λ _. records.new.items ≡ records.old.items ++ option_to_list heard) (λ e. (e ≡ FaultMemory) × (records.new.items ≡ records.old.items)) }
-{
-    if let Some(heard) = heard {
-        records.push(heard)?;
-    }
-    Ok(())
-}
-
 impl HeardReader {
     // The reader after the bytes of a piece, whose records are put behind those that are there; where memory fails, some of them are.
     fn feed_bytes(self, piece: &[u8], records: &mut Vec<Heard>) -> Result<HeardReader, Fault>
@@ -30,8 +20,8 @@ impl HeardReader {
         for b in piece {
             let step = reader.step(*b);
             reader = step.reader;
-            if let Err(fault) = keep(records, step.heard) {
-                return Err(fault);
+            if let Some(heard) = step.heard {
+                records.push(heard)?;
             }
         }
         Ok(reader)
@@ -43,13 +33,11 @@ impl HeardReader {
         ensures { MatchResult result (λ reader. Fed self piece.now records.old.items reader records.new.items) (λ e. (e ≡ FaultMemory) × (records.new.items ≡ records.old.items)) }
     {
         let before = records.len();
-        match self.feed_bytes(piece, records) {
-            Ok(reader) => Ok(reader),
-            Err(fault) => {
-                records.truncate(before);
-                Err(fault)
-            }
+        let fed = self.feed_bytes(piece, records);
+        if fed.is_err() {
+            records.truncate(before);
         }
+        fed
     }
 
     // The channel of the input, once its record was read.
@@ -74,7 +62,7 @@ impl HeardReader {
                 byte: 0,
             }),
             Phase::Records(..) => {
-                if self.count == 0 {
+                if self.held.count() == 0 {
                     None
                 } else {
                     Some(Stopped {

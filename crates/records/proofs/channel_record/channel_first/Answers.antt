@@ -1,24 +1,18 @@
-use Rattle.std.proofs.Common.{◌≡◌, ◌≤◌, length, get_or, rules}
-use Rattle.records.proofs.Firsts.{first_none, first-other, first_cut, channel_made, channel-not}
+use Rattle.std.proofs.Common.{◌∷◌, refl, rules}
+use Rattle.std.proofs.lemmas.Result.{err_from_is_err_and}
+use Rattle.records.proofs.Firsts.{channel_made, channel-not, kind_cut, kind_is, kind_refused}
 use Rattle.records.proofs.channel_record.channel_first.Goals as goal
 
+pub returns-in_err-after_kind : goal.returns-in_err-after_kind
+returns-in_err-after_kind c = let p = err_from_is_err_and c.from_residual.result c.from_residual.ensures.1 in rw (p.1, p.2) (kind_refused 1 4 c.args.bytes.now _ c.in_err-after_kind.field-0.0 c.in_err-after_kind.ensures)
+
 pub returns-in_default : goal.returns-in_default
-returns-in_default c = search (rules, first_none)
+returns-in_default c = search (rules, kind_cut)
 
-pub returns-then-kind-ne-CHANNEL : goal.returns-then-kind-ne-CHANNEL
-returns-then-kind-ne-CHANNEL c = search (rules, first-other)
+pub returns-in_err-new : goal.returns-in_err-new
+returns-in_err-new c =
+    let p = err_from_is_err_and c.from_residual-in_err-new.result c.from_residual-in_err-new.ensures.1 in
+    rw (p.1, p.2, kind_is 1 c.args.bytes.now c.in_ok-after_kind.field-0.now c.in_ok-after_kind.ensures) (channel-not (1 ∷ c.in_ok-after_kind.field-0.now) c.in_err-new.field-0.0 (search rules) refl c.in_err-new.ensures.0 c.in_err-new.ensures.1)
 
-pub returns-in_default-bytes : goal.returns-in_default-bytes
-returns-in_default-bytes c = search (rules, first_cut)
-
-pub returns-in-Ok : goal.returns-in-Ok
-returns-in-Ok c =
-    let long : 4 ≤ length c.args.bytes.now = search rules in
-    let kind : get_or c.args.bytes.now 0 0 ≡ 1 = search rules in
-    channel_made c.args.bytes.now c.in-Ok.channel long kind c.in-Ok.ensures
-
-pub returns-in-Err : goal.returns-in-Err
-returns-in-Err c =
-    let long : 4 ≤ length c.args.bytes.now = search rules in
-    let kind : get_or c.args.bytes.now 0 0 ≡ 1 = search rules in
-    channel-not c.args.bytes.now c.in-Err.fault long kind c.in-Err.ensures.0 c.in-Err.ensures.1
+pub returns : goal.returns
+returns c = rw (kind_is 1 c.args.bytes.now c.in_ok-after_kind.field-0.now c.in_ok-after_kind.ensures) (channel_made (1 ∷ c.in_ok-after_kind.field-0.now) c.in_ok-new.field-0 (search rules) refl c.in_ok-new.ensures)

@@ -1,11 +1,14 @@
 use Rattle.std.proofs.Common.{ℕ, List, [], ◌∷◌, ◌++◌, length, vec_items, sym, ap, ◌∙◌}
 use Rattle.writers.proofs.Putting.{begun_after, none_begun}
+use Rattle.std.proofs.lemmas.Result.{err_from_is_err_and}
 use Rattle.writers.proofs.messages.begin_message.Goals as goal
 
-pub returns-in-Err : goal.returns-in-Err
-returns-in-Err c = (c.in-Err.ensures.0, none_begun (vec_items c.args.out.now) (vec_items c.put.new.out) c.in-Err.ensures.1)
+pub returns-in_err-put : goal.returns-in_err-put
+returns-in_err-put c =
+    let p = err_from_is_err_and c.from_residual.result c.from_residual.ensures.1 in
+    rw (p.1, p.2) (c.in_err-put.ensures.0, none_begun (vec_items c.args.out.now) (vec_items c.put.new.out) c.in_err-put.ensures.1)
 
 pub returns : goal.returns
 returns c =
     begun_after c.put_numbers.result (vec_items c.args.out.now) (2 ∷ length c.args.numbers.now ∷ []) _ (vec_items c.put.new.out) (vec_items c.put_numbers.new.out)
-    (c.in_default.ensures ∙ ap (λ (bs : List ℕ). vec_items c.args.out.now ++ bs) (c.message_head.ensures ∙ ap (λ (n : ℕ). 2 ∷ n ∷ []) (sym c.requires))) c.put_numbers.ensures
+    (c.in_ok-put.ensures ∙ ap (λ (bs : List ℕ). vec_items c.args.out.now ++ bs) (c.message_head.ensures ∙ ap (λ (n : ℕ). 2 ∷ n ∷ []) (sym c.requires))) c.put_numbers.ensures

@@ -1,29 +1,21 @@
-use Rattle.std.proofs.Common.{◌≡◌, ◌≤◌, length, get_or, arith, rules}
-use Rattle.records.proofs.Firsts.{first_none, first-other, first_cut, counted_cut, rest_short, rest_long}
+use Rattle.std.proofs.Common.{◌∷◌, refl, arith, rules}
+use Rattle.std.proofs.lemmas.Result.{err_from_is_err_and}
+use Rattle.records.proofs.Firsts.{counted_cut, kind_cut, kind_is, kind_refused, rest_short, rest_long}
 use Rattle.answers.proofs.Said.{read_made}
 use Rattle.answers.proofs.read.Read.first.Goals as goal
 
+pub returns-in_err-after_kind : goal.returns-in_err-after_kind
+returns-in_err-after_kind c = let p = err_from_is_err_and c.from_residual.result c.from_residual.ensures.1 in rw (p.1, p.2) (kind_refused 4 11 c.args.bytes.now _ c.in_err-after_kind.field-0.0 c.in_err-after_kind.ensures)
+
 pub returns-in_default : goal.returns-in_default
-returns-in_default c = search (rules, first_none)
-
-pub returns-then-kind-ne-READ : goal.returns-then-kind-ne-READ
-returns-then-kind-ne-READ c = search (rules, first-other)
-
-pub returns-in_default-bytes : goal.returns-in_default-bytes
-returns-in_default-bytes c = search (rules, first_cut)
+returns-in_default c = search (rules, kind_cut)
 
 pub returns-then-rest-from : goal.returns-then-rest-from
 returns-then-rest-from c =
-    let bs = c.args.bytes.now in
-    let long : 11 ≤ length c.args.bytes.now = search rules in
-    let kind : get_or c.args.bytes.now 0 0 ≡ 4 = search rules in
-    let cut = rest_short bs 11 _ c.if-rest-from.true long in
-    counted_cut 4 11 _ bs _ (omega arith) long kind (rw c.from.ensures at cut)
+    let cut = rest_short c.in_ok-after_kind.field-0.now 10 _ c.if-rest-from.true c.in-len10-up.len_at_least in
+    rw (kind_is 4 c.args.bytes.now c.in_ok-after_kind.field-0.now c.in_ok-after_kind.ensures) (counted_cut 4 11 _ (4 ∷ c.in_ok-after_kind.field-0.now) _ (omega arith) (search rules) refl (omega (arith, cut, c.from.ensures)))
 
 pub returns : goal.returns
 returns c =
-    let bs = c.args.bytes.now in
-    let long : 11 ≤ length c.args.bytes.now = search rules in
-    let kind : get_or c.args.bytes.now 0 0 ≡ 4 = search rules in
-    let all = rest_long bs 11 _ c.if-rest-from.false long in
-    read_made bs c.from_be_bytes.result c.from_be_bytes-2.result c.from_be_bytes.ensures (search rules) long kind (rw c.from.ensures at all)
+    let all = rest_long c.in_ok-after_kind.field-0.now 10 _ c.if-rest-from.false c.in-len10-up.len_at_least in
+    rw (kind_is 4 c.args.bytes.now c.in_ok-after_kind.field-0.now c.in_ok-after_kind.ensures) (read_made (4 ∷ c.in_ok-after_kind.field-0.now) c.from_be_bytes.result c.from_be_bytes-2.result c.from_be_bytes.ensures (search rules) (search rules) refl (omega (arith, all, c.from.ensures)))

@@ -1,19 +1,16 @@
-use Rattle.std.proofs.Common.{◌≡◌, ◌≤◌, length, get_or, rules}
-use Rattle.records.proofs.Firsts.{first_none, first-other, first_cut}
+use Rattle.std.proofs.Common.{◌∷◌, refl, rules}
+use Rattle.std.proofs.lemmas.Result.{err_from_is_err_and}
+use Rattle.records.proofs.Firsts.{kind_cut, kind_is, kind_refused}
 use Rattle.answers.proofs.Said.{told_made}
 use Rattle.answers.proofs.told.Told.first.Goals as goal
 
+pub returns-in_err-after_kind : goal.returns-in_err-after_kind
+returns-in_err-after_kind c = let p = err_from_is_err_and c.from_residual.result c.from_residual.ensures.1 in rw (p.1, p.2) (kind_refused 5 10 c.args.bytes.now _ c.in_err-after_kind.field-0.0 c.in_err-after_kind.ensures)
+
 pub returns-in_default : goal.returns-in_default
-returns-in_default c = search (rules, first_none)
-
-pub returns-then-kind-ne-TOLD : goal.returns-then-kind-ne-TOLD
-returns-then-kind-ne-TOLD c = search (rules, first-other)
-
-pub returns-in_default-bytes : goal.returns-in_default-bytes
-returns-in_default-bytes c = search (rules, first_cut)
+returns-in_default c = search (rules, kind_cut)
 
 pub returns : goal.returns
 returns c =
-    let long : 10 ≤ length c.args.bytes.now = search rules in
-    let kind : get_or c.args.bytes.now 0 0 ≡ 5 = search rules in
-    told_made c.args.bytes.now c.from_be_bytes-frame.result c.from_be_bytes-sender.result c.from_be_bytes-frame.ensures (search rules) c.told_as.result c.told_as.ensures long kind
+    rw (kind_is 5 c.args.bytes.now c.in_ok-after_kind.field-0.now c.in_ok-after_kind.ensures)
+    (told_made (5 ∷ c.in_ok-after_kind.field-0.now) c.from_be_bytes-frame.result c.from_be_bytes-sender.result c.from_be_bytes-frame.ensures (search rules) c.told_as.result c.told_as.ensures (search rules) refl)

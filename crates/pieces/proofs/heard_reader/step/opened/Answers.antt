@@ -1,26 +1,27 @@
-use Rattle.std.proofs.Common.{◌≡◌, ◌+◌, length, get_or, take, sym, ap, arith, rules}
-use Rattle.std.proofs.lemmas.List.{length-take-le, take_more}
+use Rattle.std.proofs.Common.{ℕ, List, Err, None, ap, sym, ◌∙◌, arith}
+use Rattle.records.specs.Channels.{channel_in, settled}
 use Rattle.reading.proofs.ChannelLaws.{channel_short}
-use Rattle.pieces.specs.Waiting.{is_short}
+use Rattle.pieces.specs.Coming.{coming}
+use Rattle.pieces.specs.Waiting.{held_in}
+use Rattle.pieces.specs.declared.phase.Phase.TheVariants.{Records, Over}
 use Rattle.pieces.proofs.Stepping.{heard-waits, opened-whole, opened_wrong}
 use Rattle.pieces.proofs.heard_reader.step.opened.Goals as goal
 
-pub invariant_of-result : goal.invariant_of-result
-invariant_of-result c = record { few = search rules; waits = heard-waits _ _ }
+pub at-requires-clause-waited : goal.at-requires-clause-waited
+at-requires-clause-waited c = rw c.none.ensures (heard-waits _ _)
 
-pub invariant_of-result-in-Short : goal.invariant_of-result-in-Short
-invariant_of-result-in-Short c =
-    let twenty : length c.args.held ≡ 20 = search rules in
-    let short = rw c.from.ensures at (sym c.in-Short.ensures) in
-    let few = channel_short (take (c.args.before + 1) c.args.held) short in
-    let long = length-take-le (c.args.before + 1) c.args.held (omega (arith, c.requires.few)) in
-    record { few = omega arith; waits = ap is_short short }
+pub at-requires-in-Err-Short-clause-few : goal.at-requires-in-Err-Short-clause-few
+at-requires-in-Err-Short-clause-few c =
+    let few = channel_short (held_in c.args.held) (ap channel_in (sym c.bytes.ensures) ∙ sym c.channel_first.ensures ∙ ap settled (c.in-Err-Short.is ∙ ap Err c.in-Err-Short.field-0-is)) in
+    omega arith
 
-pub returns-in-Whole : goal.returns-in-Whole
-returns-in-Whole c = λ more.
-    let twenty : length c.args.held ≡ 20 = search rules in
-    opened-whole (take c.args.before c.args.held) (take (c.args.before + 1) c.args.held) more (get_or c.args.held c.args.before 0) c.in-Whole.channel c.requires.waited
-    (take_more c.args.held c.args.before 0 (omega (arith, c.requires.few))) (rw c.from.ensures at (sym c.in-Whole.ensures))
+pub returns-in-Ok : goal.returns-in-Ok
+returns-in-Ok c = λ more.
+    let (front, b, held, short) = c.requires in
+    opened-whole front (held_in c.args.held) more b c.in-Ok.channel short held (ap channel_in (sym c.bytes.ensures) ∙ sym c.channel_first.ensures ∙ ap settled c.in-Ok.is)
+    ∙ sym (c.at.ensures more ∙ ap (λ (bs : List ℕ). coming (Records c.in-Ok.channel 0) 4 bs more) c.none.ensures)
 
-pub returns-in-Wrong : goal.returns-in-Wrong
-returns-in-Wrong c = λ more. opened_wrong (take (c.args.before + 1) c.args.held) more c.in-Wrong.fault (rw c.from.ensures at (sym c.in-Wrong.ensures))
+pub returns-in-Err-Wrong : goal.returns-in-Err-Wrong
+returns-in-Err-Wrong c = λ more.
+    opened_wrong (held_in c.args.held) more c.in-Err-Wrong.fault (ap channel_in (sym c.bytes.ensures) ∙ sym c.channel_first.ensures ∙ ap settled (c.in-Err-Wrong.is ∙ ap Err c.in-Err-Wrong.field-0-is))
+    ∙ sym (c.at-in-Err-Wrong.ensures more ∙ ap (λ (bs : List ℕ). coming (Over None (record { fault = c.in-Err-Wrong.fault; byte = 0 })) 0 bs more) c.none-in-Err-Wrong.ensures)

@@ -1,17 +1,12 @@
--- What the program `plan` tells beside the lines of channels, and a channel's bytes.
--- bytes_of, wish_text, misuse_text, Told. Assumes nothing.
-use Rattle.std.specs.Prelude.{ℕ, List, [], ◌∷◌, ◌++◌, codes, decimal, String}
+-- What the program `plan` tells beside the lines of channels.
+-- wish_text, misuse_text, Told. Assumes nothing.
+use Rattle.std.specs.Prelude.{ℕ, List, ◌++◌, codes, decimal, String}
 use Rattle.std.specs.declared.alloc.Global.{Global}
 use Rattle.command_words.specs.Wrong as wrong
-use Rattle.speakall.specs.Plan.{Channel}
 use Rattle.planning.specs.declared.wish.Wish.{Wish}
 use Rattle.plan_words.specs.declared.request.Misuse.{Misuse}
 use Rattle.plan_words.specs.declared.request.Misuse.TheVariants.{Unknown, NoNumber, TooMany, TooFew}
 use Rattle.plan_words.specs.Words.{place_of}
-
--- the kind of the record, which is 1, and q, d and k
-abbrev pub bytes_of : Channel → List ℕ
-bytes_of c = 1 ∷ c.q ∷ c.d ∷ c.k ∷ []
 
 -- what was asked for
 abbrev pub wish_text : Wish → List ℕ

@@ -8,8 +8,9 @@ mod request;
 mod word;
 
 pub use command_words::Line;
-pub use line::{Refusal, bytes};
+pub use line::Refusal;
 pub use misuse::{USAGE, told};
+pub use records::channel_bytes as bytes;
 pub use request::{Misuse, Request, read_words};
 pub use word::{Word, words_of};
 

@@ -1,10 +1,9 @@
-// Why there is no channel, and a channel's bytes.
+// Why there is no channel.
 ghost use Rattle.channels.specs.Faults.{fault_text};
-ghost use Rattle.channels.specs.Settings.{settings};
-ghost use Rattle.plan_words.specs.Lines.{bytes_of, wish_text};
-ghost use Rattle.std.specs.Prelude.{◌≡◌, ◌++◌, Some, codes};
+ghost use Rattle.plan_words.specs.Lines.{wish_text};
+ghost use Rattle.std.specs.Prelude.{◌++◌, Some, codes};
 
-use channels::{Channel, Fault};
+use channels::Fault;
 use planning::Wish;
 use std::fmt;
 
@@ -30,11 +29,4 @@ impl fmt::Display for Refusal {
             "{fault} for {senders} senders, {others} others and messages of {numbers} numbers"
         )
     }
-}
-
-// The channel's record: 1, q, d, k.
-pub fn bytes(channel: Channel) -> [u8; 4]
-    ensures { result ≡ bytes_of (settings channel) }
-{
-    [1, channel.parts(), channel.digits(), channel.others()]
 }

@@ -1,3 +1,2 @@
--- Lemmas of the signs of the grid and of the lines.
-pub mod Signs
+-- Lemmas of the lines.
 pub mod Spaced

@@ -1,12 +1,12 @@
 // The lines of the senders: in which slots each speaks, what is heard of each and what is read.
 ghost use Rattle.channels.specs.Plans.{plan_in};
 ghost use Rattle.channels.specs.Settings.{settings};
-ghost use Rattle.ice_lines.specs.Lines.{planned_text, read_text, spaced_of, words_of};
+ghost use Rattle.ice_lines.specs.Lines.{heard_text, planned_text, read_text, spaced_of, words_of};
 ghost use Rattle.speakall.specs.Promise.{table_of};
-ghost use Rattle.std.specs.Prelude.{◌≡◌, IfOk, string_bytes};
+ghost use Rattle.std.specs.Prelude.{◌≡◌, map, IfOk, string_bytes};
 
-use crate::marks::letter;
 use channels::{Channel, Fault, Plan};
+use ice_grid::letter;
 use messages::{PartWord, Reading};
 use std::alloc::{AllocError, Global};
 
@@ -16,8 +16,7 @@ fn spaced(heap: Global, numbers: &[u32]) -> Result<String, AllocError>
 {
     let mut text = String::new(heap);
     for n in numbers {
-        let one = format!(in heap; " {n}")?;
-        text.push_str(one.as_str())?;
+        write!(text, " {n}")?;
     }
     Ok(text)
 }
@@ -27,14 +26,10 @@ fn slots_of(heap: Global, plan: Plan, q: u8) -> Result<Vec<u32>, AllocError>
     requires { plan.q ≡ q }
     ensures { IfOk result (λ v. v.items ≡ table_of q (plan_in plan) q) }
 {
-    let mut slots = Vec::new(heap);
-    for part in 0..q {
-        let Some(slot) = plan.slot(part) else {
-            return Ok(slots);
-        };
-        slots.push(u32::from(slot))?;
-    }
-    Ok(slots)
+    (0..q)
+        .filter_map(|part| plan.slot(part))
+        .map(u32::from)
+        .collect(heap)
 }
 
 // A sender with its letter and its plan, as `a  sender 7: slots 2 3 4 0 1`.
@@ -53,25 +48,24 @@ pub fn planned(
     Ok(format!(in heap; "{letter}  sender {number}: slots{slots}")?)
 }
 
-// The numbers of the parts in which the words were heard, and the words.
-fn parts_of(heap: Global, words: &[PartWord]) -> Result<Vec<u32>, AllocError> {
-    let mut parts = Vec::new(heap);
-    for word in words {
-        parts.push(u32::from(word.part))?;
-    }
-    Ok(parts)
+// The numbers of the parts in which the words were heard.
+fn parts_of(heap: Global, words: &[PartWord]) -> Result<Vec<u32>, AllocError>
+    ensures { IfOk result (λ v. v.items ≡ map (λ w. w.part) words.now) }
+{
+    words.iter().map(|word| u32::from(word.part)).collect(heap)
 }
 
-fn values_of(heap: Global, words: &[PartWord]) -> Result<Vec<u32>, AllocError> {
-    let mut values = Vec::new(heap);
-    for word in words {
-        values.push(word.value)?;
-    }
-    Ok(values)
+// What was heard in them.
+fn values_of(heap: Global, words: &[PartWord]) -> Result<Vec<u32>, AllocError>
+    ensures { IfOk result (λ v. v.items ≡ map (λ w. w.value) words.now) }
+{
+    words.iter().map(|word| word.value).collect(heap)
 }
 
 // What is heard of a sender, as `sender 7: 4 words, in parts 1 2 3 4: 11 12 13 14`.
-pub fn heard(heap: Global, number: u32, words: &[PartWord]) -> Result<String, AllocError> {
+pub fn heard(heap: Global, number: u32, words: &[PartWord]) -> Result<String, AllocError>
+    ensures { IfOk result (λ s. string_bytes s ≡ heard_text number (map (λ w. w.part) words.now) (map (λ w. w.value) words.now)) }
+{
     let parts = spaced(heap, &parts_of(heap, words)?)?;
     let values = spaced(heap, &values_of(heap, words)?)?;
     match words.len() {

@@ -1,7 +1,7 @@
 -- The promise of a frame: of at most k + 1 speakers each one's message is what is read.
 -- Idea: the words heard of it are sound and enough, and its own message fits them; so reading cannot answer otherwise, and one message only fits.
 -- answered, delivered. Assumes nothing.
-use Rattle.std.proofs.Common.{◌≡◌, ℕ, T, List, length, sym, refl, ap, ◌∙◌, subst, arith}
+use Rattle.std.proofs.Common.{◌≡◌, ℕ, T, List, length, sym, ap, ◌∙◌, subst, arith}
 use mathlib.Core.List.{Memᴰ}
 use Rattle.messages.specs.Made.{Cleared, Made, read_of}
 use Rattle.messages.specs.declared.listen.Reading.{Reading}

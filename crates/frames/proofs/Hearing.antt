@@ -1,6 +1,6 @@
 -- The slots of the code are what the statement says is heard: at first silence, and one speaker more at a time.
 -- there_silent, silent_hears, said_hears. Assumes nothing.
-use Rattle.std.proofs.Common.{◌≡◌, ℕ, zero, suc, ◌+◌, ◌*◌, ◌<◌, Bool, true, false, cond, eqb, List, [], ◌∷◌, get_or, replicate, sym, refl, ap, ◌∙◌, subst, ⊎_elim, arith}
+use Rattle.std.proofs.Common.{◌≡◌, ℕ, zero, suc, ◌+◌, ◌*◌, ◌<◌, true, List, [], ◌∷◌, replicate, sym, refl, ap, ◌∙◌, subst, ⊎_elim}
 use Rattle.std.proofs.lemmas.List.{get_or-replicate}
 use Rattle.std.proofs.lemmas.Bool.{cases_eq, eq-eqb, ne_eqb}
 use Rattle.frames.specs.declared.slot.Slot.{Slot}
@@ -9,7 +9,7 @@ use Rattle.frames.specs.Slots.{Hears, Said, joined, slot_in, slot_of, speaker, t
 use Rattle.frames.proofs.Places.{place_lt}
 use Rattle.speakall.specs.Frame as statement
 use Rattle.speakall.specs.Frame.{heard, word_at, with_one}
-use Rattle.speakall.specs.Plan.{Channel, Plan, plan_of, slot_at}
+use Rattle.speakall.specs.Plan.{Channel, plan_of, slot_at}
 
 pub there_silent : (n k : ℕ) → there_in n (replicate k Silence) ≡ true
 unfolding there_in

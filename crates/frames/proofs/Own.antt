@@ -1,6 +1,6 @@
 -- What the code takes for a sender's word is what the statement says is heard of it: senders with the same plan are the same.
 -- own_in, Gathered, gathered_none, gathered_more, gathered_all, words_heard. Assumes nothing.
-use Rattle.std.proofs.Common.{◌≡◌, ℕ, zero, suc, ◌+◌, ◌-◌, ◌*◌, ◌^◌, ◌<◌, ◌≤◌, Bool, true, false, cond, eqb, ltb, List, [], ◌∷◌, ◌++◌, get_or, Some, None, Option, sym, refl, ap, ◌∙◌, ap₂, ⊎_elim, arith}
+use Rattle.std.proofs.Common.{◌≡◌, ℕ, zero, suc, ◌+◌, ◌-◌, ◌*◌, ◌^◌, ◌<◌, ◌≤◌, Bool, true, false, cond, eqb, List, [], ◌∷◌, ◌++◌, get_or, Some, None, Option, sym, refl, ap, ◌∙◌, ap₂, ⊎_elim, arith}
 use Rattle.std.proofs.lemmas.Bool.{cases_eq, eq-eqb, ne_eqb, eqb-true, ltb-true, and_parts, cases_Bool}
 use Rattle.std.proofs.lemmas.List.{map-append, append_assoc, append-nil}
 use Rattle.std.specs.Option.{option_to_list}
@@ -8,8 +8,8 @@ use Rattle.frames.specs.declared.slot.Slot.{Slot}
 use Rattle.frames.specs.declared.slot.Slot.TheVariants.{Silence, One, Noise}
 use Rattle.frames.specs.Slots.{Hears, is_there, own_word, slot_in, slot_of, there_in}
 use Rattle.frames.specs.Heard.{words_from}
-use Rattle.messages.specs.Heard.{words_in}
-use Rattle.messages.specs.declared.words.PartWord.{PartWord}
+use Rattle.polynomials.specs.Heard.{words_in}
+use Rattle.polynomials.specs.declared.words.PartWord.{PartWord}
 use Rattle.speakall.specs.Frame as statement
 use Rattle.speakall.specs.Frame.{Word, heard, word_if, words_of}
 use Rattle.speakall.specs.Plan.{Channel, Plan, plan_of, same, slot_at}

@@ -5,7 +5,7 @@ use Rattle.channels.specs.declared.fault.Fault.{Fault}
 use Rattle.channels.specs.declared.fault.Fault.TheVariants as fault
 use Rattle.frames.specs.declared.slot.Slot.{Slot}
 use Rattle.frames.specs.declared.slot.Slot.TheVariants.{Silence, One, Noise}
-use Rattle.messages.specs.declared.words.PartWord.{PartWord}
+use Rattle.polynomials.specs.declared.words.PartWord.{PartWord}
 use Rattle.speakall.specs.Frame as statement
 use Rattle.speakall.specs.Plan.{Channel, Plan, below, plan_of, size, slot_at}
 

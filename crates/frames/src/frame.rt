@@ -1,5 +1,5 @@
 // What is heard in a whole frame, slot by slot: the slots of part 0, then those of part 1, and so on.
-ghost use Rattle.std.specs.Prelude.{◌≡◌, ◌*◌, ◌^◌, ◌<◌, ◌≤◌, true, length, vec_len, MatchOption};
+ghost use Rattle.std.specs.Prelude.{◌≡◌, ◌+◌, ◌*◌, ◌^◌, ◌<◌, ◌≤◌, true, vec_len, MatchOption};
 ghost use Rattle.frames.specs.Slots.{slot_in, there_in};
 
 use crate::slot::Slot;
@@ -42,16 +42,25 @@ impl Frame {
         if part >= q || y >= q {
             return None;
         }
-        Some(slot_at(&self.slots, q, part, y))
+        Some(self.at(part, y))
     }
-}
 
-// The slot y of a part, of which each has q.
-fn slot_at(slots: &[Slot], q: u8, part: u8, y: u8) -> Slot
-    requires part { part < q }
-    requires slot { y < q }
-    requires whole { length slots.now ≡ q * q }
-    ensures { result ≡ slot_in q slots.now part y }
-{
-    slots[part as usize * q as usize + y as usize]
+    // The place of slot y of a part among all slots.
+    fn place(&self, part: u8, y: u8) -> usize
+        requires part { part < self.now.channel.q }
+        requires slot { y < self.now.channel.q }
+        ensures is { result ≡ part * self.now.channel.q + y }
+        ensures there { result < vec_len self.now.slots }
+    {
+        usize::from(part) * usize::from(self.channel.parts()) + usize::from(y)
+    }
+
+    // What is heard in slot y of a part.
+    fn at(&self, part: u8, y: u8) -> Slot
+        requires part { part < self.now.channel.q }
+        requires slot { y < self.now.channel.q }
+        ensures { result ≡ slot_in self.now.channel.q self.now.slots.items part y }
+    {
+        self.slots[self.place(part, y)]
+    }
 }

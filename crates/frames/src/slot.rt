@@ -30,14 +30,8 @@ impl Slot {
         ensures { result ≡ own_word number part self }
     {
         match self {
-            Slot::One { sender, word } => {
-                if sender == number {
-                    Some(PartWord { part, value: word })
-                } else {
-                    None
-                }
-            }
-            Slot::Silence | Slot::Noise => None,
+            Slot::One { sender, word } if sender == number => Some(PartWord { part, value: word }),
+            Slot::Silence | Slot::One { .. } | Slot::Noise => None,
         }
     }
 

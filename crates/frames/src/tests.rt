@@ -38,15 +38,13 @@ fn three_are_read(rt: HostRuntime) -> Result<(), Fail> {
     );
     assert_eq!(rt; frame.slot(1, 1), Some(Slot::Silence));
     assert_eq!(rt; (frame.slot(5, 0), frame.slot(0, 5)), (None, None));
-    for speaker in three.iter() {
+    for speaker in &three {
         let mut message = [0; 3];
         assert_eq!(rt;
             frame.read(heap, speaker.number, &mut message)?,
             Reading::Message { words: 4, off: 0 }
         );
-        for (a, b) in message.iter().zip(speaker.message.iter()) {
-            assert_eq!(rt; *a, *b);
-        }
+        assert!(rt; message.as_slice() == speaker.message.as_slice());
     }
     Ok(())
 }
@@ -90,10 +88,10 @@ fn some_cannot_speak(rt: HostRuntime) -> Result<(), Fail> {
             heap,
             &[(1, [1, 2, 3]), (number, [0, 0, last]), (26, [0, 0, 0])],
         )?;
-        match Frame::hear(heap, channel, &some) {
-            Ok(_) => return Err(Fail::new("it speaks")),
-            Err(f) => assert_eq!(rt; f, fault),
-        }
+        let Err(told) = Frame::hear(heap, channel, &some) else {
+            return Err(Fail::new("it speaks"));
+        };
+        assert_eq!(rt; told, fault);
     }
     let mut frame = Frame::silent(heap, channel)?;
     assert_eq!(rt; frame.speak(3, &[1, 2]), Err(Fault::Message));

@@ -1,44 +1,31 @@
 // What is heard of one sender: its words, each with its part, and the message that they come to.
-ghost use Rattle.std.specs.Prelude.{◌≡◌, ◌*◌, ◌^◌, ◌<◌, ◌≤◌, true, ◌⊎◌, ◌++◌, length, IfOk, MatchResult};
+ghost use Rattle.std.specs.Prelude.{◌≡◌, ◌^◌, ◌<◌, ◌≤◌, ◌⊎◌, IfOk, MatchResult};
 ghost use Rattle.channels.specs.Plans.{Planned};
 ghost use Rattle.channels.specs.Settings.{settings};
 ghost use Rattle.channels.specs.declared.fault.Fault.TheVariants.{Memory as FaultMemory, Sender as FaultSender};
-ghost use Rattle.frames.specs.Slots.{slot_in, slot_of, there_in};
+ghost use Rattle.frames.specs.Slots.{slot_in, slot_of};
 ghost use Rattle.frames.specs.Heard.{Answered, Delivered, words_from};
-ghost use Rattle.messages.specs.Heard.{words_in};
+ghost use Rattle.polynomials.specs.Heard.{words_in};
 ghost use Rattle.speakall.specs.Frame.{word_if};
 ghost use Rattle.speakall.specs.Plan.{plan_of, slot_at};
 ghost use Rattle.std.specs.Option.{option_to_list};
 
-use super::{Frame, slot_at};
-use crate::slot::Slot;
-use channels::{Channel, Fault, Plan};
+use super::Frame;
+use channels::{Fault, Plan};
 use messages::{PartWord, Reading};
 use std::alloc::Global;
 
-// The word of a sender in a part, if it is alone in its slot there.
-fn word_in(channel: Channel, plan: Plan, number: u32, part: u8, slots: &[Slot]) -> Option<PartWord>
-    requires planned { Planned plan (settings channel) number }
-    requires part { part < channel.q }
-    requires whole { length slots.now ≡ channel.q * channel.q }
-    requires there { there_in (channel.q ^ channel.d) slots.now ≡ true }
-    ensures { words_in (option_to_list result) ≡ word_if (plan_of (settings channel) number) part (slot_of (settings channel) (slot_in channel.q slots.now part (slot_at channel.q (plan_of (settings channel) number) part))) }
-{
-    let y = plan.slot(part)?;
-    slot_at(slots, channel.parts(), part, y).word_of(number, part)
-}
-
-// A word more, if there is one.
-fn push(words: &mut Vec<PartWord>, word: Option<PartWord>) -> Result<(), Fault>
-    ensures { MatchResult result (λ _. words.new.items ≡ words.old.items ++ option_to_list word) (λ e. e ≡ FaultMemory) }
-{
-    if let Some(word) = word {
-        words.push(word)?;
-    }
-    Ok(())
-}
-
 impl Frame {
+    // The word of a sender in a part, if it is alone in its slot there.
+    fn word_in(&self, plan: Plan, number: u32, part: u8) -> Option<PartWord>
+        requires planned { Planned plan (settings self.now.channel) number }
+        requires part { part < self.now.channel.q }
+        ensures { words_in (option_to_list result) ≡ word_if (plan_of (settings self.now.channel) number) part (slot_of (settings self.now.channel) (slot_in self.now.channel.q self.now.slots.items part (slot_at self.now.channel.q (plan_of (settings self.now.channel) number) part))) }
+    {
+        let y = plan.slot(part)?;
+        self.at(part, y).word_of(number, part)
+    }
+
     // The words heard of a sender, in the order of the parts; `Fault::Sender` for one that isn't there, or `Fault::Memory`.
     pub fn words(&self, heap: Global, number: u32) -> Result<Vec<PartWord>, Fault>
         ensures { MatchResult result (λ ws. words_in ws.items ≡ words_from (settings self.now.channel) self.now.slots.items (plan_of (settings self.now.channel) number) 0 self.now.channel.q) (λ e. (e ≡ FaultMemory) ⊎ ((e ≡ FaultSender) × (self.now.channel.q ^ self.now.channel.d ≤ number))) }
@@ -46,10 +33,7 @@ impl Frame {
         let plan = Plan::of(self.channel, number)?;
         let mut words = Vec::new(heap);
         for part in 0..self.channel.parts() {
-            push(
-                &mut words,
-                word_in(self.channel, plan, number, part, &self.slots),
-            )?;
+            words.extend(self.word_in(plan, number, part))?;
         }
         Ok(words)
     }

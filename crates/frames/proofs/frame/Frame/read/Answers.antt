@@ -2,7 +2,7 @@ use Rattle.std.proofs.Common.{vec_items, ap, ◌∙◌, arith}
 use Rattle.channels.proofs.Facts.{channel_good}
 use Rattle.channels.specs.Settings.{settings}
 use Rattle.frames.proofs.Delivery.{answered, delivered}
-use Rattle.messages.specs.Heard.{words_in}
+use Rattle.polynomials.specs.Heard.{words_in}
 use Rattle.speakall.specs.Plan.{plan_of}
 use Rattle.frames.proofs.frame.Frame.read.Goals as goal
 

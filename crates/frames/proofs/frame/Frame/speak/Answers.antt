@@ -1,13 +1,10 @@
-use Rattle.std.proofs.Common.{refl, arith, rules}
-use Rattle.std.proofs.lemmas.List.{with_items_is}
+use Rattle.std.proofs.Common.{vec_items}
+use Rattle.channels.specs.Settings.{settings}
+use Rattle.frames.proofs.Hearing.{said_hears}
 use Rattle.frames.proofs.frame.Frame.speak.Goals as goal
 
-pub invariant_of-self : goal.invariant_of-self
-invariant_of-self c =
-    let whole = with_items_is c.args.self.now.slots c.speak_in.new.slots (omega arith) in
-    record { whole = search rules; there = rw whole c.speak_in.ensures.there }
-
-pub returns : goal.returns
-returns c =
-    let whole = with_items_is c.args.self.now.slots c.speak_in.new.slots (omega arith) in
-    record { same = refl; cases = simp whole (simp c.deref_mut.ensures.value at c.speak_in.ensures.cases) }
+pub returns-clause-cases : goal.returns-clause-cases
+returns-clause-cases c =
+    let frame = c.args.self.now in
+    let said = rw c.in_ok-plan.ensures.plan at c.say.ensures.said in
+    record { can = c.in_ok-check_speaker.ensures; heard = said_hears (settings frame.channel) c.args.number c.args.message.now (vec_items frame.slots) (vec_items c.say.new.self.slots) said }

@@ -1,7 +1,7 @@
 use Rattle.std.proofs.Common.{◌≡◌, drop}
 use Rattle.channels.specs.Settings.{settings}
 use Rattle.frames.specs.Speakers.{refusal_in}
-use Rattle.frames.proofs.frame.hear.first_refused.Given as goal
+use Rattle.frames.proofs.frame.hear.check_speakers.Given as goal
 
 -- those left decide
 abbrev pub invariant-loop-speaker : goal.invariant-loop-speaker

@@ -1,6 +1,0 @@
-use Rattle.std.proofs.Common.{arith}
-use Rattle.frames.proofs.Places.{place_lt}
-use Rattle.frames.proofs.frame.slot_at.Goals as goal
-
-pub bounds-slots-part : goal.bounds-slots-part
-bounds-slots-part c = omega (arith, place_lt c.args.q c.args.part c.args.y c.requires.part c.requires.slot)

@@ -12,7 +12,7 @@ use Rattle.records.specs.Hearing.{place_of}
 use Rattle.reading.specs.Formats.{heard_format}
 use Rattle.reading.specs.Reading.{finished}
 use Rattle.readers.specs.Inputs.{HeardInputIs, Input, read_input, settings_if}
-use Rattle.readers.specs.declared.heard_input.HeardInput.{HeardInput}
+use Rattle.readers.specs.declared.input_read.InputRead.{InputRead}
 use Rattle.speakall.specs.Plan.{Channel}
 use Rattle.writers.specs.Order.{InOrder}
 use Rattle.aired.specs.Aired.{outside, record_with, records_of, records_to, what_if}
@@ -95,9 +95,9 @@ records_inside c g f slots rs pos h same e =
     ap (λ (z : Channel). outside z f rs) same ∙ ap (outside c f) e ∙ outside_none c f 0 (records_of c f slots) (records_ordered c f slots pos h)
 
 -- what is read of an input that was written of the records of a frame
-pub read_back : (c : Channel) (f : ℕ) (slots : List Slot) (rs : List Heard) (bs : List ℕ) (i : HeardInput) → 0 < c.q → c.q < 252 → rs ≡ records_of c f slots →
+pub read_back : (c : Channel) (f : ℕ) (slots : List Slot) (rs : List Heard) (bs : List ℕ) (i : InputRead Heard) → 0 < c.q → c.q < 252 → rs ≡ records_of c f slots →
     (InOrder c.q 0 rs → read_input (λ c. heard_format c.q) bs ≡ record { channel = Some c; reading = record { given = rs; ending = finished } }) →
-    HeardInputIs i (read_input (λ c. heard_format c.q) bs) → (settings_if i.channel ≡ Some c) × (vec_items i.heard.records ≡ records_of c f slots)
+    HeardInputIs i (read_input (λ c. heard_format c.q) bs) → (settings_if i.channel ≡ Some c) × (vec_items i.read.records ≡ records_of c f slots)
 read_back c f slots rs bs i pos h e back is =
     let r = back (subst (InOrder c.q 0) (sym e) (records_ordered c f slots pos h)) in
     (is.channel ∙ ap (λ (z : Input Heard). z.channel) r, is.heard.given ∙ ap (λ (z : Input Heard). z.reading.given) r ∙ e)

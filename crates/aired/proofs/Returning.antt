@@ -14,7 +14,7 @@ use Rattle.records.specs.declared.heard.Heard.{Heard}
 use Rattle.reading.specs.Formats.{heard_format}
 use Rattle.reading.specs.Reading.{finished}
 use Rattle.readers.specs.Inputs.{HeardInputIs, Input, read_input, settings_if}
-use Rattle.readers.specs.declared.heard_input.HeardInput.{HeardInput}
+use Rattle.readers.specs.declared.input_read.InputRead.{InputRead}
 use Rattle.speakall.specs.Plan.{Channel}
 use Rattle.writers.specs.Order.{InOrder}
 use Rattle.aired.specs.Aired.{Kept, Returned, bytes_of, outside, records_of}
@@ -22,9 +22,9 @@ use Rattle.aired.proofs.Ordered.{read_back, records_inside}
 
 module _ (c g : Channel) (f : ℕ) (slots : List Slot) (wide : 2 < c.q) (narrow : c.q < 252) (same : g ≡ c) where
   -- what is read of the bytes that were written of the records of a frame
-  pub came_back : (rs ws : List Heard) (bs us : List ℕ) (i : HeardInput) → rs ≡ records_of c f slots → ws ≡ rs →
+  pub came_back : (rs ws : List Heard) (bs us : List ℕ) (i : InputRead Heard) → rs ≡ records_of c f slots → ws ≡ rs →
       (InOrder g.q 0 ws → read_input (λ c. heard_format c.q) bs ≡ record { channel = Some g; reading = record { given = ws; ending = finished } }) → us ≡ bs →
-      HeardInputIs i (read_input (λ c. heard_format c.q) us) → (settings_if i.channel ≡ Some c) × (vec_items i.heard.records ≡ records_of c f slots)
+      HeardInputIs i (read_input (λ c. heard_format c.q) us) → (settings_if i.channel ≡ Some c) × (vec_items i.read.records ≡ records_of c f slots)
   came_back rs ws bs us i e w back u is =
       read_back c f slots ws us i (omega arith) narrow (w ∙ e)
       (λ o. ap (read_input (λ c. heard_format c.q)) u ∙ back (subst (λ (z : Channel). InOrder z.q 0 ws) (sym same) o) ∙

@@ -31,6 +31,6 @@ pub fn through_bytes(heap: Global, frame: &Frame, number: u32) -> Result<Aired, 
     let Some(channel) = input.channel else {
         return Err(Fault::Kind);
     };
-    let frame = frame_of(heap, channel, number, &input.heard.records)?;
+    let frame = frame_of(heap, channel, number, &input.read.records)?;
     Ok(Aired { bytes, frame })
 }

@@ -9,7 +9,7 @@ ghost use Rattle.std.specs.Prelude.{◌≡◌, MatchResult};
 
 use crate::heard_reader::HeardReader;
 use channels::Fault;
-use readers::{HeardInput, HeardRead};
+use readers::{HeardInput, InputRead, RecordsRead};
 use std::alloc::Global;
 
 // What the pieces of an input give: exactly what reading them at once, joined, gives. `Fault::Memory` where no memory is left.
@@ -21,9 +21,9 @@ pub fn read_pieces(heap: Global, pieces: &[Vec<u8>]) -> Result<HeardInput, Fault
     for piece in pieces {
         reader = reader.feed(piece, &mut records)?;
     }
-    Ok(HeardInput {
+    Ok(InputRead {
         channel: reader.channel(),
-        heard: HeardRead {
+        read: RecordsRead {
             records,
             stopped: reader.finish(),
         },

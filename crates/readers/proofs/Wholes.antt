@@ -1,34 +1,34 @@
 -- A whole input: its channel, and then its records.
--- channel_long, heard_input, message_input, message_there, message_more. Assumes nothing.
-use Rattle.std.proofs.Common.{◌≡◌, ℕ, ◌+◌, ◌-◌, ◌*◌, ◌≤◌, List, [], ◌∷◌, ◌++◌, length, take, drop, Some, sym, refl, ◌∙◌, arith, Ok}
-use Rattle.std.proofs.lemmas.List.{take_rest, flat_map_more}
-use Rattle.std.specs.List.{flat_map}
+-- channel_long, input_is, heard_are, heard_input_is, message_there, message_taken. Assumes nothing.
+use Rattle.std.proofs.Common.{◌≡◌, ℕ, ◌+◌, ◌-◌, ◌*◌, ◌≤◌, List, [], ◌++◌, length, vec_items, take, drop, Some, sym, refl, ap, ◌∙◌, arith, Ok}
+use Rattle.std.proofs.lemmas.List.{map-id, take_rest}
 use Rattle.channels.specs.declared.channel.Channel.{Channel}
 use Rattle.channels.specs.Settings.{settings}
 use Rattle.records.specs.Channels.{channel_in}
-use Rattle.records.specs.Messages.{message_in}
+use Rattle.records.specs.Messages.{message_in, message_size}
+use Rattle.records.specs.declared.heard.Heard.{Heard}
 use Rattle.records.specs.Numbers.{numbers_of}
 use Rattle.records.proofs.Firsts.{first-whole}
-use Rattle.reading.specs.Formats.{heard_format, message_format}
-use Rattle.reading.specs.Reading.{Reading, onto, read_from}
-use Rattle.reading.proofs.MessageLaws.{message_lawful, message_whole}
-use Rattle.reading.proofs.Loops.{loop-more}
-use Rattle.readers.specs.Inputs.{HeardIs, HeardInputIs, MessagesAre, MessageInputIs, read_input}
-use Rattle.readers.specs.declared.heard_input.HeardRead.{HeardRead}
-use Rattle.readers.specs.declared.message_input.MessageRead.{MessageRead}
+use Rattle.reading.specs.Reading.{Format, Reading, read_from}
+use Rattle.reading.proofs.MessageLaws.{message_whole}
+use Rattle.readers.specs.Inputs.{HeardIs, HeardInputIs, Input, InputIs, RecordsAre, read_input}
+use Rattle.readers.specs.declared.input_read.InputRead.{InputRead}
+use Rattle.readers.specs.declared.records_read.RecordsRead.{RecordsRead}
 use Rattle.speakall.specs.Plan as statement
 
-module _ (bs : List ℕ) where
-  pub channel_long : (x : statement.Channel) → channel_in bs ≡ Ok x → 4 ≤ length bs
-  channel_long x e = (first-whole 1 4 bs _ x e).0
+pub channel_long : (bs : List ℕ) (x : statement.Channel) → channel_in bs ≡ Ok x → 4 ≤ length bs
+channel_long bs x e = (first-whole 1 4 bs _ x e).0
 
-  pub heard_input : (c : Channel) (h : HeardRead) → channel_in bs ≡ Ok (settings c) → HeardIs h (read_from (heard_format c.q) 0 4 0 (take (length bs - 4) (drop 4 bs))) →
-      HeardInputIs (record { channel = Some c; heard = h }) (read_input (λ c. heard_format c.q) bs)
-  heard_input c h e k = rw e (record { channel = refl; heard = simp take_rest at k })
+pub input_is : {R A : Type 0} (seen : R → A) (format : statement.Channel → Format A) (bs : List ℕ) (c : Channel) (r : RecordsRead R) → channel_in bs ≡ Ok (settings c) →
+    RecordsAre seen r (read_from (format (settings c)) 0 4 0 (take (length bs - 4) (drop 4 bs))) → InputIs seen (record { channel = Some c; read = r }) (read_input format bs)
+input_is seen format bs c r e k = rw e (record { channel = refl; read = simp take_rest at k })
 
-  pub message_input : (c : Channel) (m : MessageRead) → channel_in bs ≡ Ok (settings c) → MessagesAre m (read_from (message_format (statement.size (settings c))) 0 4 0 (take (length bs - 4) (drop 4 bs))) →
-      MessageInputIs (record { channel = Some c; messages = m }) (read_input (λ c. message_format (statement.size c)) bs)
-  message_input c m e k = rw e (record { channel = refl; messages = simp take_rest at k })
+-- of what was heard, as it is
+pub heard_are : (h : RecordsRead Heard) (r : Reading Heard) → RecordsAre (λ (x : Heard). x) h r → HeardIs h r
+heard_are h r k = record { given = sym (map-id (vec_items h.records)) ∙ k.given; stopped = k.stopped }
+
+pub heard_input_is : (i : InputRead Heard) (r : Input Heard) → InputIs (λ (x : Heard). x) i r → HeardInputIs i r
+heard_input_is i r k = record { channel = k.channel; heard = heard_are i.read r.reading k.read }
 
 -- a message that was found has all its numbers, as many as a message has
 pub message_there : (s : ℕ) (left : List ℕ) (n m : ℕ) → Ok (numbers_of (take (4 * n) (drop 2 left))) ≡ message_in s left → n ≡ s → m ≡ n →
@@ -38,17 +38,10 @@ message_there s left n m e k z =
     let l = w.2 ∙ sym k in
     (omega (arith, w.1), l)
 
--- the messages read so far, of which the numbers were put one after the other
-abbrev pub Read : (s : ℕ) (numbers : List ℕ) (byte : ℕ) (left : List ℕ) (all : Reading (List ℕ)) → Type 0
-Read s numbers byte left all = (read : List (List ℕ)) × (numbers ≡ flat_map (λ (ns : List ℕ). ns) read) × (onto read (read_from (message_format s) 0 byte 0 left) ≡ all)
-
-pub message_more : (s : ℕ) (numbers more : List ℕ) (byte end n : ℕ) (left : List ℕ) (all : Reading (List ℕ)) → Ok (numbers_of (take (4 * n) (drop 2 left))) ≡ message_in s left →
-    length (numbers_of (take (4 * n) (drop 2 left))) ≡ n → end ≡ 2 + 4 * n → more ≡ numbers ++ numbers_of (take (end - 2) (drop 2 left)) → Read s numbers byte left all →
-    Read s more (byte + end) (take (length left - end) (drop end left)) all
-message_more s numbers more byte end n left all o l z m (read, is, so) =
-    let x = numbers_of (take (4 * n) (drop 2 left)) in
-    let four : end - 2 ≡ 4 * n = omega arith in (
-      read ++ (x ∷ []),
-      rw (m, four, is) (flat_map_more (λ (ns : List ℕ). ns) [] read x),
-      loop-more (message_format s) (message_lawful s) read 0 byte left all so (read ++ (x ∷ [])) 0 end x (sym o) refl refl (rw l z),
-    )
+-- and these are taken out of its bytes
+pub message_taken : (s : ℕ) (bs : List ℕ) (n m : ℕ) (before items : List ℕ) → Ok (numbers_of (take (4 * n) (drop 2 bs))) ≡ message_in s bs → length (numbers_of (take (4 * n) (drop 2 bs))) ≡ n → m ≡ n → before ≡ [] →
+    items ≡ before ++ numbers_of (take (2 + 4 * m - 2) (drop 2 bs)) → (message_in s bs ≡ Ok items) × (2 + 4 * m ≡ message_size items) × (◌≡◌ {A = ℕ} 0 0)
+message_taken s bs n m before items o l e z k =
+    let four : 2 + 4 * m - 2 ≡ 4 * n = omega arith in
+    let same : items ≡ numbers_of (take (4 * n) (drop 2 bs)) = rw (k, four, z) refl in
+    (sym o ∙ ap Ok (sym same), omega (arith, ap length same), refl)

@@ -1,7 +1,7 @@
 -- A whole input: the record of a channel, and then records of one kind.
--- Input, read_input; HeardIs, HeardInputIs, MessagesAre, MessageInputIs, no_channel. Assumes nothing.
-use Rattle.std.specs.Prelude.{◌≡◌, ℕ, List, [], drop, Some, None, vec_items, Option, Ok, Err, Result}
-use Rattle.std.specs.List.{flat_map}
+-- Input, read_input; RecordsAre, InputIs, HeardIs, HeardInputIs, MessagesAre, MessageInputIs, no_channel. Assumes nothing.
+use Rattle.std.specs.Prelude.{◌≡◌, ℕ, List, [], map, drop, Some, None, Vec, vec_items, Option, Ok, Err, Result}
+use Rattle.std.specs.Global.{Global}
 use Rattle.channels.specs.declared.channel.Channel.{Channel}
 use Rattle.channels.specs.declared.fault.Fault.TheVariants.{Kind as FaultKind}
 use Rattle.channels.specs.Settings.{settings}
@@ -11,10 +11,8 @@ use Rattle.records.specs.declared.unread.Unread.TheVariants.{Wrong, Short}
 use Rattle.records.specs.declared.heard.Heard.{Heard}
 use Rattle.reading.specs.declared.Stopped.{Stopped}
 use Rattle.reading.specs.Reading.{Format, Reading, cut_at, fault_at, read_from, stopped_at}
-use Rattle.readers.specs.declared.heard_input.HeardRead.{HeardRead}
-use Rattle.readers.specs.declared.heard_input.HeardInput.{HeardInput}
-use Rattle.readers.specs.declared.message_input.MessageRead.{MessageRead}
-use Rattle.readers.specs.declared.message_input.MessageInput.{MessageInput}
+use Rattle.readers.specs.declared.records_read.RecordsRead.{RecordsRead}
+use Rattle.readers.specs.declared.input_read.InputRead.{InputRead}
 use Rattle.speakall.specs.Plan as statement
 
 -- what is read of a whole input: its channel, if it has one, and the records after it
@@ -43,20 +41,27 @@ abbrev pub settings_if : Option Channel → Option statement.Channel
 settings_if None = None
 settings_if (Some c) = Some (settings c)
 
--- the records that are given, and the fault with its byte
-pub record HeardIs (h : HeardRead) (r : Reading Heard) : Type 0 where
+-- the records that are given, as they are seen, and the fault with its byte
+pub record RecordsAre {R A : Type 0} (seen : R → A) (h : RecordsRead R) (r : Reading A) : Type 0 where
+  pub given : map seen (vec_items h.records) ≡ r.given
+  pub stopped : h.stopped ≡ stopped_at r.ending
+
+pub record InputIs {R A : Type 0} (seen : R → A) (i : InputRead R) (r : Input A) : Type 0 where
+  pub channel : settings_if i.channel ≡ r.channel
+  pub read : RecordsAre seen i.read r.reading
+
+-- of what was heard
+pub record HeardIs (h : RecordsRead Heard) (r : Reading Heard) : Type 0 where
   pub given : vec_items h.records ≡ r.given
   pub stopped : h.stopped ≡ stopped_at r.ending
 
-pub record HeardInputIs (i : HeardInput) (r : Input Heard) : Type 0 where
+pub record HeardInputIs (i : InputRead Heard) (r : Input Heard) : Type 0 where
   pub channel : settings_if i.channel ≡ r.channel
-  pub heard : HeardIs i.heard r.reading
+  pub heard : HeardIs i.read r.reading
 
--- the numbers of the messages that are given, one message after the other, and the fault with its byte
-pub record MessagesAre (m : MessageRead) (r : Reading (List ℕ)) : Type 0 where
-  pub given : vec_items m.numbers ≡ flat_map (λ (numbers : List ℕ). numbers) r.given
-  pub stopped : m.stopped ≡ stopped_at r.ending
+-- of messages, each as its numbers
+abbrev pub MessagesAre : RecordsRead (Vec ℕ Global) → Reading (List ℕ) → Type 0
+MessagesAre m r = RecordsAre (λ v. vec_items v) m r
 
-pub record MessageInputIs (i : MessageInput) (r : Input (List ℕ)) : Type 0 where
-  pub channel : settings_if i.channel ≡ r.channel
-  pub messages : MessagesAre i.messages r.reading
+abbrev pub MessageInputIs : InputRead (Vec ℕ Global) → Input (List ℕ) → Type 0
+MessageInputIs i r = InputIs (λ v. vec_items v) i r

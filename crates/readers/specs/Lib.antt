@@ -1,2 +1,3 @@
 -- What the readers of whole inputs give.
+pub mod Firsts
 pub mod Inputs

@@ -3,8 +3,14 @@
 #![tactic(auto)]
 
 pub mod heard_input;
+pub mod input_read;
 pub mod message_input;
 mod no_channel;
+pub mod record;
+pub mod records_read;
 
 pub use heard_input::{HeardInput, HeardRead, read_heard, read_heard_input};
+pub use input_read::{InputRead, read_input};
 pub use message_input::{MessageInput, MessageRead, read_message_input, read_messages};
+pub use record::{First, Record};
+pub use records_read::{RecordsRead, read_records};

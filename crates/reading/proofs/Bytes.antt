@@ -6,9 +6,9 @@ use Rattle.std.proofs.lemmas.Bool.{cases_lt}
 use Rattle.channels.specs.declared.fault.Fault.{Fault}
 use Rattle.records.specs.declared.unread.Unread.{Unread}
 use Rattle.records.specs.declared.unread.Unread.TheVariants.{Wrong, Short}
-use Rattle.reading.specs.Reading.{Ending, Format, Reading, finished, cut_at, fault_at, onto, read_from, stepped}
+use Rattle.reading.specs.Reading.{Lawful, Ending, Format, Reading, finished, cut_at, fault_at, onto, read_from, stepped}
 use Rattle.reading.proofs.Steps.{read_more, read_wrong}
-use Rattle.reading.proofs.Cuts.{Lawful, found_cut}
+use Rattle.reading.proofs.Cuts.{found_cut}
 use Rattle.reading.proofs.HeardLaws.{clash}
 
 module _ {A : Type 0} (f : Format A) (law : Lawful f) where

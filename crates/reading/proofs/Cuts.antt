@@ -1,5 +1,5 @@
 -- What bytes after a fault change, and what a cut loses, for records of any kind that are found by their own bytes alone.
--- Lawful, fault_stays, last_lost. Assumes nothing.
+-- fault_stays, last_lost. Assumes nothing.
 use Rattle.std.proofs.Common.{◌≡◌, ℕ, zero, suc, ◌+◌, ◌-◌, ◌<◌, ◌≤◌, List, [], ◌∷◌, ◌++◌, length, take, drop, sym, refl, ap, ◌∙◌, subst, ⊎_elim, arith, Ok, Err, Result}
 use Rattle.std.proofs.lemmas.List.{length-append, length-drop, length-take, drop-append-le, take-append-drop, take-take}
 use Rattle.std.proofs.lemmas.Bool.{cases_lt}
@@ -7,15 +7,8 @@ use Rattle.std.proofs.lemmas.Slice.{between_is}
 use Rattle.channels.specs.declared.fault.Fault.{Fault}
 use Rattle.records.specs.declared.unread.Unread.{Unread}
 use Rattle.records.specs.declared.unread.Unread.TheVariants.{Wrong, Short}
-use Rattle.reading.specs.Reading.{Format, fault_at, onto, read_from, FaultStays, LastLost, begun_before}
+use Rattle.reading.specs.Reading.{Format, Lawful, fault_at, onto, read_from, FaultStays, LastLost, begun_before}
 use Rattle.reading.proofs.Steps.{read_none, read_more, read_wrong, read_short}
-
--- a record is found by its own bytes: it has some, they are there, and others after them change nothing
-pub record Lawful {A : Type 0} (f : Format A) : Type 0 where
-  pub sized : (low : ℕ) (bs : List ℕ) (x : A) → f.first low bs ≡ Ok x → (0 < f.size x) × (f.size x ≤ length bs)
-  pub whole_more : (low : ℕ) (bs more : List ℕ) (x : A) → f.first low bs ≡ Ok x → f.first low (bs ++ more) ≡ Ok x
-  pub wrong_more : (low : ℕ) (bs more : List ℕ) (g : Fault) → f.first low bs ≡ Err (Wrong g) → f.first low (bs ++ more) ≡ Err (Wrong g)
-  pub whole-own : (low : ℕ) (bs : List ℕ) (x : A) → f.first low bs ≡ Ok x → f.first low (take (f.size x) bs) ≡ Ok x
 
 module _ {A : Type 0} (f : Format A) (law : Lawful f) where
   -- of bytes of at most so many; by induction over how many

@@ -12,8 +12,8 @@ use Rattle.records.specs.declared.heard.What.TheVariants.{Word, Noise}
 use Rattle.records.specs.declared.heard.Heard.{Heard}
 use Rattle.records.specs.Hearing.{headed, heard_in, heard_size, in_order, whole_in}
 use Rattle.records.proofs.Firsts.{first_none, first-other, first_cut, heard-word_cut, heard_unknown, heard-word, heard_noise}
+use Rattle.reading.specs.Reading.{Lawful}
 use Rattle.reading.specs.Formats.{heard_format}
-use Rattle.reading.proofs.Cuts.{Lawful}
 
 -- which record stands first
 data View (bs : List ℕ) : Type 0 where

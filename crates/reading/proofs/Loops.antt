@@ -5,9 +5,8 @@ use Rattle.std.proofs.lemmas.List.{append_assoc, append-nil, length-drop, take_r
 use Rattle.records.specs.Faults.{fault_of}
 use Rattle.records.specs.declared.unread.Unread.{Unread}
 use Rattle.records.specs.declared.unread.Unread.TheVariants.{Wrong, Short}
-use Rattle.reading.specs.Reading.{Ending, Format, Reading, finished, cut_at, fault_at, onto, read_from, stopped_at}
+use Rattle.reading.specs.Reading.{Lawful, Ending, Format, Reading, finished, cut_at, fault_at, onto, read_from, stopped_at}
 use Rattle.reading.proofs.Steps.{read_none, read_more, read_wrong, read_short}
-use Rattle.reading.proofs.Cuts.{Lawful}
 
 module _ {A : Type 0} (f : Format A) (law : Lawful f) (read : List A) (low byte : ℕ) (left : List ℕ) (all : Reading A) (so : onto read (read_from f low byte 0 left) ≡ all) where
   pub loop-more : (more : List A) (low' size : ℕ) (x : A) → f.first low left ≡ Ok x → more ≡ read ++ (x ∷ []) → low' ≡ f.after x → size ≡ f.size x →

@@ -10,8 +10,8 @@ use Rattle.records.specs.Messages.{count_in, message_in, message_size, sized}
 use Rattle.records.specs.Numbers.{are_small, numbers_of}
 use Rattle.records.proofs.Firsts.{first_none, first-other, first_cut, counted, counted_cut, count_within}
 use Rattle.records.proofs.Fours.{length_numbers}
+use Rattle.reading.specs.Reading.{Lawful}
 use Rattle.reading.specs.Formats.{message_format}
-use Rattle.reading.proofs.Cuts.{Lawful}
 use Rattle.reading.proofs.HeardLaws.{clash, short-wrong, whole_same}
 
 -- which message stands first

@@ -1,6 +1,6 @@
 -- Records one after the other, read to their end or to the first fault.
--- Format, Ending, Reading, stopped_at, onto, stepped, read_from; begun_before, FaultStays, LastLost. Assumes nothing.
-use Rattle.std.specs.Prelude.{◌≡◌, ℕ, zero, suc, ◌+◌, ◌-◌, ◌≤◌, List, [], ◌∷◌, ◌++◌, length, take, Some, None, Option, Ok, Err, Result}
+-- Format, Ending, Reading, stopped_at, onto, stepped, read_from; Lawful, begun_before, FaultStays, LastLost. Assumes nothing.
+use Rattle.std.specs.Prelude.{◌≡◌, ℕ, zero, suc, ◌+◌, ◌-◌, ◌<◌, ◌≤◌, List, [], ◌∷◌, ◌++◌, length, take, Some, None, Option, Ok, Err, Result}
 use Rattle.channels.specs.declared.fault.Fault.{Fault}
 use Rattle.channels.specs.declared.fault.Fault.TheVariants.{Kind as FaultKind}
 use Rattle.records.specs.declared.unread.Unread.{Unread}
@@ -47,6 +47,13 @@ unfoldable pub read_from : {A : Type 0} → Format A → (low at skip : ℕ) →
 read_from f low at skip [] = record { given = []; ending = finished }
 read_from f low at (suc skip) (b ∷ bs) = read_from f low (at + 1) skip bs
 read_from f low at zero (b ∷ bs) = stepped at (f.first low (b ∷ bs)) (λ x. read_from f (f.after x) (at + 1) (f.size x - 1) bs)
+
+-- a record is found by its own bytes: it has some, they are there, and others after them change nothing
+pub record Lawful {A : Type 0} (f : Format A) : Type 0 where
+  pub sized : (low : ℕ) (bs : List ℕ) (x : A) → f.first low bs ≡ Ok x → (0 < f.size x) × (f.size x ≤ length bs)
+  pub whole_more : (low : ℕ) (bs more : List ℕ) (x : A) → f.first low bs ≡ Ok x → f.first low (bs ++ more) ≡ Ok x
+  pub wrong_more : (low : ℕ) (bs more : List ℕ) (g : Fault) → f.first low bs ≡ Err (Wrong g) → f.first low (bs ++ more) ≡ Err (Wrong g)
+  pub whole-own : (low : ℕ) (bs : List ℕ) (x : A) → f.first low bs ≡ Ok x → f.first low (take (f.size x) bs) ≡ Ok x
 
 -- how many of these records, one after the other, begin before a byte
 unfoldable pub begun_before : {A : Type 0} → (A → ℕ) → (byte : ℕ) → List A → ℕ

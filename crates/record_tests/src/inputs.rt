@@ -21,8 +21,8 @@ fn with_channel(heap: Global, bytes: &[u8]) -> Result<Vec<u8>, Fail> {
 
 fn heard_whole(heap: Global, bytes: &[u8]) -> Result<(usize, u8, u64), Fail> {
     let input = read_heard_input(heap, bytes)?;
-    let (fault, byte) = stop(input.heard.stopped);
-    Ok((input.heard.records.len(), fault, byte))
+    let (fault, byte) = stop(input.read.stopped);
+    Ok((input.read.records.len(), fault, byte))
 }
 
 fn heard_in_pieces(heap: Global, bytes: &[u8], size: usize) -> Result<(usize, u8, u64), Fail> {
@@ -31,14 +31,16 @@ fn heard_in_pieces(heap: Global, bytes: &[u8], size: usize) -> Result<(usize, u8
         pieces.push(piece.to_vec(heap)?)?;
     }
     let input = read_pieces(heap, &pieces)?;
-    let (fault, byte) = stop(input.heard.stopped);
-    Ok((input.heard.records.len(), fault, byte))
+    let (fault, byte) = stop(input.read.stopped);
+    Ok((input.read.records.len(), fault, byte))
 }
 
 fn message_whole(heap: Global, bytes: &[u8]) -> Result<(usize, u8, u64), Fail> {
     let input = read_message_input(heap, bytes)?;
-    let (fault, byte) = stop(input.messages.stopped);
-    Ok((input.messages.numbers.len(), fault, byte))
+    let (fault, byte) = stop(input.read.stopped);
+    let messages = input.read.records.iter();
+    let numbers = messages.fold(0usize, |n, message| n.saturating_add(message.len()));
+    Ok((numbers, fault, byte))
 }
 
 // No channel: an empty input, a cut one, another kind, one that isn't in the list; and a channel alone.

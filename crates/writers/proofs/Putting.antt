@@ -1,10 +1,10 @@
 -- A turn of a loop that puts the bytes of one thing after the other.
--- put_none, put_more, put_all, put_kept, none_begun, begun_after, whole_or. Assumes nothing.
-use Rattle.std.proofs.Common.{◌≡◌, ℕ, ◌+◌, ◌<◌, ◌≤◌, List, [], ◌∷◌, ◌++◌, length, get_or, take, Ok, Err, Result, sym, refl, ap, ◌∙◌, inl, arith, MatchResult}
+-- put_none, put_more, put_all, put_kept, none_begun, begun_after, put_or. Assumes nothing.
+use Rattle.std.proofs.Common.{◌≡◌, ℕ, ◌+◌, ◌<◌, ◌≤◌, List, [], ◌∷◌, ◌++◌, length, get_or, take, Ok, Err, Result, sym, refl, ap, ◌∙◌, inl, arith}
 use Rattle.std.proofs.lemmas.List.{append_assoc, append-nil, flat_map_more, length-append, take_all, take_at, take_more, take-take}
 use Rattle.std.specs.List.{flat_map}
 use Rattle.channels.specs.declared.fault.Fault.{Fault}
-use Rattle.writers.specs.Written.{Begun, PutOr}
+use Rattle.writers.specs.Written.{Begun, Put, PutOr}
 
 module _ {X : Type 0} (f : X → List ℕ) (before : List ℕ) (xs : List X) where
   pub put_none : before ≡ before ++ flat_map f (take 0 xs)
@@ -33,8 +33,7 @@ begun_after (Err g) before head more mid now e b = (
       sym (take-take (length before) (length mid) now l) ∙ ap (take (length before)) b.1 ∙ ap (take (length before)) e ∙ take_at before head (length before) refl,
 )
 
--- what was begun is whole, or taken back
-pub whole_or : (cause : Fault → Type 0) (done r : Result (Unit {0}) Fault) (before bytes mid now : List ℕ) (n : ℕ) → r ≡ done → Begun done before bytes mid →
-    MatchResult done (λ _. now ≡ mid) (λ _. now ≡ take n mid) → n ≡ length before → PutOr cause r before bytes now
-whole_or cause (Ok u) r before bytes mid now n e b k l = rw e (k ∙ b)
-whole_or cause (Err g) r before bytes mid now n e b k l = rw e (inl b.0, k ∙ ap (λ (m : ℕ). take m mid) l ∙ b.1)
+-- bytes that were put are so for any cause of being refused
+pub put_or : (cause : Fault → Type 0) (r : Result (Unit {0}) Fault) (before bytes now : List ℕ) → Put r before bytes now → PutOr cause r before bytes now
+put_or cause (Ok u) before bytes now p = p
+put_or cause (Err g) before bytes now p = (inl p.0, p.1)

@@ -3,20 +3,11 @@ ghost use Rattle.std.specs.Prelude.{◌≡◌, ◌<◌, length};
 ghost use Rattle.channels.specs.declared.fault.Fault.TheVariants.{Message as FaultMessage};
 ghost use Rattle.records.specs.Messages.{bytes_of_message};
 ghost use Rattle.writers.specs.Order.{MessagesBack};
-ghost use Rattle.writers.specs.Written.{Begun, PutOr};
+ghost use Rattle.writers.specs.Written.{PutOr};
 
-use crate::put::{put, put_numbers, whole_or_none};
+use crate::put::put_whole;
 use channels::Fault;
 use records::message_head;
-
-// Writes a message of so many numbers; where memory fails, some of it.
-fn begin_message(out: &mut Vec<u8>, count: u8, numbers: &[u32]) -> Result<(), Fault>
-    requires { length numbers.now ≡ count }
-    ensures { Begun result out.old.items (bytes_of_message numbers.now) out.new.items }
-{
-    put(out, &message_head(count))?;
-    put_numbers(out, numbers)
-}
 
 // Writes a message behind the bytes that are there; `Fault::Message` for one of more than 255 numbers, `Fault::Memory` without
 // memory for it, and then they stay as they were. Messages of as many numbers as a channel's, each below 2^30, are read back.
@@ -27,7 +18,5 @@ pub fn write_message(out: &mut Vec<u8>, numbers: &[u32]) -> Result<(), Fault>
     let Ok(count) = u8::try_from(numbers.len()) else {
         return Err(Fault::Message);
     };
-    let before = out.len();
-    let done = begin_message(out, count, numbers);
-    whole_or_none(out, before, done)
+    put_whole(out, &message_head(count), numbers)
 }

@@ -1,6 +1,6 @@
 // Bytes put behind others.
 ghost use Rattle.records.specs.Numbers.{bytes_of_numbers};
-ghost use Rattle.std.specs.Prelude.{◌≡◌, take, MatchResult};
+ghost use Rattle.std.specs.Prelude.{◌++◌};
 ghost use Rattle.writers.specs.Written.{Begun, Put};
 
 use channels::Fault;
@@ -14,7 +14,7 @@ pub fn put(out: &mut Vec<u8>, bytes: &[u8]) -> Result<(), Fault>
 }
 
 // Puts numbers behind the bytes that are there, four bytes each; where memory fails, some of them.
-pub fn put_numbers(out: &mut Vec<u8>, numbers: &[u32]) -> Result<(), Fault>
+fn put_numbers(out: &mut Vec<u8>, numbers: &[u32]) -> Result<(), Fault>
     ensures { Begun result out.old.items (bytes_of_numbers numbers.now) out.new.items }
 {
     for number in numbers {
@@ -23,10 +23,20 @@ pub fn put_numbers(out: &mut Vec<u8>, numbers: &[u32]) -> Result<(), Fault>
     Ok(())
 }
 
-// Takes back what was begun, where it could not be ended.
-pub fn whole_or_none(out: &mut Vec<u8>, before: usize, done: Result<(), Fault>) -> Result<(), Fault>
-    ensures { (result ≡ done) × MatchResult done (λ _. out.new.items ≡ out.old.items) (λ _. out.new.items ≡ take before out.old.items) }
+// Puts these bytes behind those that are there, and then numbers; where memory fails, some of it.
+fn begin(out: &mut Vec<u8>, head: &[u8], numbers: &[u32]) -> Result<(), Fault>
+    ensures { Begun result out.old.items (head.now ++ bytes_of_numbers numbers.now) out.new.items }
 {
+    put(out, head)?;
+    put_numbers(out, numbers)
+}
+
+// Puts these bytes behind those that are there, and then numbers; where memory fails, nothing.
+pub fn put_whole(out: &mut Vec<u8>, head: &[u8], numbers: &[u32]) -> Result<(), Fault>
+    ensures { Put result out.old.items (head.now ++ bytes_of_numbers numbers.now) out.new.items }
+{
+    let before = out.len();
+    let done = begin(out, head, numbers);
     if done.is_err() {
         out.truncate(before);
     }

@@ -4,9 +4,9 @@ ghost use Rattle.channels.specs.declared.fault.Fault.TheVariants.{Message as Fau
 ghost use Rattle.records.specs.Numbers.{bytes_of_numbers};
 ghost use Rattle.answers.specs.Readings.{bytes_of_read};
 ghost use Rattle.answers.specs.Telling.{bytes_of_told, sender_of};
-ghost use Rattle.writers.specs.Written.{Begun, PutOr};
+ghost use Rattle.writers.specs.Written.{PutOr};
 
-use crate::put::{put, put_numbers, whole_or_none};
+use crate::put::{put, put_whole};
 use answers::{Read, Told};
 use channels::Fault;
 
@@ -18,14 +18,6 @@ pub fn write_told(out: &mut Vec<u8>, told: Told) -> Result<(), Fault>
     put(out, &told.to_bytes()?)
 }
 
-// Writes these bytes and the numbers after them; where memory fails, some of it.
-fn begin_read(out: &mut Vec<u8>, head: &[u8], numbers: &[u32]) -> Result<(), Fault>
-    ensures { Begun result out.old.items (head.now ++ bytes_of_numbers numbers.now) out.new.items }
-{
-    put(out, head)?;
-    put_numbers(out, numbers)
-}
-
 // Writes a message that was read behind the bytes that are there; `Fault::Sender` for a sender of 2^24 or above, `Fault::Message`
 // for other than as many numbers as it says, `Fault::Memory` without memory for it, and then they stay as they were.
 pub fn write_read(out: &mut Vec<u8>, read: Read, numbers: &[u32]) -> Result<(), Fault>
@@ -35,7 +27,5 @@ pub fn write_read(out: &mut Vec<u8>, read: Read, numbers: &[u32]) -> Result<(), 
     if numbers.len() != usize::from(read.count) {
         return Err(Fault::Message);
     }
-    let before = out.len();
-    let done = begin_read(out, &head, numbers);
-    whole_or_none(out, before, done)
+    put_whole(out, &head, numbers)
 }

@@ -1,11 +1,10 @@
-use Rattle.reading.specs.Formats.{heard_format}
-use Rattle.reading.proofs.Cuts.{fault_stays, last_lost}
-use Rattle.reading.proofs.HeardLaws.{heard_lawful}
+use Rattle.readers.proofs.Wholes.{heard_are}
+use Rattle.std.proofs.lemmas.Result.{MatchResult-weaker}
 use Rattle.readers.proofs.heard_input.read_heard.Goals as goal
 
 pub returns : goal.returns
 returns c = record {
-  read = c.heard_to_end.ensures;
-  stays = fault_stays (heard_format c.args.channel.q) (heard_lawful c.args.channel.q);
-  lost = last_lost (heard_format c.args.channel.q) (heard_lawful c.args.channel.q);
+  read = MatchResult-weaker c.read_records.result c.read_records.ensures.read (λ h k. heard_are h _ k) (λ e k. k);
+  stays = c.read_records.ensures.stays;
+  lost = c.read_records.ensures.lost;
 }

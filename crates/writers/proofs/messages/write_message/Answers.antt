@@ -1,6 +1,8 @@
-use Rattle.std.proofs.Common.{vec_items, refl, ◌∙◌, inr, arith}
+use Rattle.std.proofs.Common.{◌≡◌, ◌<◌, length, vec_items, refl, inr, arith}
+use Rattle.channels.specs.declared.fault.Fault.TheVariants.{Message as FaultMessage}
+use Rattle.records.specs.Messages.{bytes_of_message}
 use Rattle.writers.proofs.Backward.{messages_back}
-use Rattle.writers.proofs.Putting.{whole_or}
+use Rattle.writers.proofs.Putting.{put_or}
 use Rattle.writers.proofs.messages.write_message.Goals as goal
 
 pub returns-in_default : goal.returns-in_default
@@ -8,7 +10,7 @@ returns-in_default c = record { bytes = (inr (refl, omega (arith, c.in_default.e
 
 pub returns : goal.returns
 returns c = record {
-  bytes = whole_or _ c.begin_message-done.result c.whole_or_none.result (vec_items c.args.out.now) _ (vec_items c.begin_message-done.new.out) (vec_items c.whole_or_none.new.out) c.len-before.result c.whole_or_none.ensures.0
-      c.begin_message-done.ensures c.whole_or_none.ensures.1 (c.len-before.ensures ∙ c.args.out.now.ok.0);
+  bytes = put_or (λ e. (e ≡ FaultMessage) × (255 < length c.args.numbers.now)) c.put_whole.result (vec_items c.args.out.now) (bytes_of_message c.args.numbers.now) (vec_items c.put_whole.new.out)
+      (rw (c.message_head.ensures, c.in-Ok.ensures.1) at c.put_whole.ensures);
   back = messages_back;
 }

@@ -1,7 +1,7 @@
 use Rattle.std.proofs.Common.{vec_items}
 use Rattle.writers.proofs.Putting.{begun_after, none_begun}
 use Rattle.std.proofs.lemmas.Result.{err_from_is_err_and}
-use Rattle.writers.proofs.told.begin_read.Goals as goal
+use Rattle.writers.proofs.put.begin.Goals as goal
 
 pub returns-in_err-put : goal.returns-in_err-put
 returns-in_err-put c =

@@ -8,7 +8,7 @@ use crate::checks::fits;
 use channels::{Channel, Fault};
 use polynomials::{PartWord, interpolate, is_sound};
 
-// What the words of one sender come to.
+// What the words of one sender come to. Not a `Result`: all three are answers that a listener tells, and none of them ends a frame.
 #[derive(Clone, Copy, PartialEq, Eq, Debug)]
 pub enum Reading {
     // Fewer words than the message has numbers: so many.

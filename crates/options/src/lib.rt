@@ -35,7 +35,7 @@ fn others(heap: Global, option: &str, texts: &[String]) -> Result<Vec<String>, A
     Ok(words)
 }
 
-// The words of a command line without an option, and whether it was given.
+// The words of a command line without an option, and whether it was given: both, since the words are there either way.
 #[derive(Drop)]
 pub struct Sorted {
     pub given: bool,

@@ -1,7 +1,7 @@
 -- From the test over the whole table of inverses to each of its entries: one induction over a row, one step over the rows.
--- rows_long, rows_entry, rows_more. Assumes nothing.
-use Rattle.std.proofs.Common.{◌≡◌, ℕ, zero, suc, ◌+◌, ◌-◌, ◌*◌, ◌%◌, ◌<◌, ◌≤◌, true, ◌&&◌, eqb, ltb, List, [], ◌∷◌, length, get_or, take, drop, sym, ◌∙◌, subst, add-zero, arith}
-use Rattle.std.proofs.lemmas.List.{at_drop_more, length-take}
+-- rows_entry, rows_more. Assumes nothing.
+use Rattle.std.proofs.Common.{◌≡◌, ℕ, zero, suc, ◌+◌, ◌-◌, ◌*◌, ◌%◌, ◌<◌, true, ◌&&◌, eqb, ltb, List, [], ◌∷◌, length, get_or, take, drop, sym, ◌∙◌, subst, add-zero, arith}
+use Rattle.std.proofs.lemmas.List.{at_drop_more}
 use Rattle.std.proofs.lemmas.Bool.{and_parts, ltb-true, eqb-true}
 use Rattle.channels.specs.Rows.{Inverse, row, rows}
 
@@ -26,12 +26,6 @@ module _ (qs vs : List ℕ) (i q : ℕ) (h : i < length qs) (e : q ≡ get_or qs
       let a = and_parts (eqb (length (take (q - 1) vs)) (q - 1) && row q 1 (take (q - 1) vs)) (rows (drop (i + 1) qs) (drop (q - 1) vs)) at_row in
       let b = and_parts (eqb (length (take (q - 1) vs)) (q - 1)) (row q 1 (take (q - 1) vs)) a.0 in
       (eqb-true (length (take (q - 1) vs)) (q - 1) b.0, b.1, a.1)
-
-  -- the row of q lies in the table
-  pub rows_long : q - 1 ≤ length vs
-  rows_long =
-      let e' = sym (length-take (q - 1) vs) ∙ parts.0 in
-      omega arith
 
   -- an entry of the row of q
   pub rows_entry : (a : ℕ) → 0 < a → a < q → Inverse q a (get_or (take (q - 1) vs) (a - 1) 0)

@@ -1,3 +1,2 @@
--- Lemmas of lists that are made of others, item by item, and of words by their places.
+-- Lemmas of lists that are made of others, item by item.
 pub mod Grown
-pub mod Placed

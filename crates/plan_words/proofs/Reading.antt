@@ -1,5 +1,5 @@
 -- The words are read one after the other: those read are sound, and the answer is the one for all.
--- Held, held_none, held_more, answer_stopped, answer_ended. Assumes nothing.
+-- Held, held_more, answer_stopped, answer_ended. Assumes nothing.
 use Rattle.std.proofs.Common.{◌≡◌, ℕ, ◌+◌, ◌<◌, ◌≤◌, Bool, true, false, ◌||◌, List, [], ◌∷◌, ◌++◌, length, get_or, take, sym, refl, ap, ◌∙◌, arith}
 use Rattle.std.specs.List.{AllByRecursion}
 use Rattle.std.proofs.lemmas.List.{get_or_default, take_all, take_more}
@@ -34,9 +34,6 @@ pub record Held (r : Bool) (n : List ℕ) (ws : List Word) : Type 0 where
 
 sound : (r : Bool) (n : List ℕ) (ws : List Word) → Held r n ws → Sound ws
 sound r n ws h = record { fine = h.fine; few = rw h.numbers h.few }
-
-pub held_none : (ws : List Word) → Held false [] (take 0 ws)
-held_none ws = record { fine = tt; numbers = refl; raw = refl; few = omega arith }
 
 pub held_more : (ws : List Word) (i : ℕ) (d : Word) (r s : Bool) (n m : List ℕ) → i < length ws → Fine (get_or ws i d) × (m ≡ n ++ numbers_of (get_or ws i d ∷ [])) × (s ≡ (r || is_raw (get_or ws i d ∷ []))) × (length m ≤ 3) → Held r n (take i ws) → Held s m (take (i + 1) ws)
 held_more ws i d r s n m l j h =

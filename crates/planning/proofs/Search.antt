@@ -1,8 +1,8 @@
 -- The search through the sides and digits, in order: what is passed does not serve, and what is left comes later.
--- NoneLower with lower_none, lower_more, lower_all, lower_found: the digits of one side.
+-- NoneLower: the digits of one side.
 -- NoneNarrower with narrower_none, narrower_more, narrower_all, narrower_found: the sides.
 -- list_none, list_passed, list_pushed, list_next_side, list_all: the list of all that serve. Assumes nothing.
-use Rattle.std.proofs.Common.{◌≡◌, ℕ, ◌+◌, ◌<◌, ◌≤◌, List, [], ◌∷◌, ◌++◌, length, get_or, sym, refl, ap, ◌∙◌, subst, inl, inr, ⊎_elim, arith}
+use Rattle.std.proofs.Common.{◌≡◌, ℕ, ◌+◌, ◌<◌, ◌≤◌, List, [], ◌∷◌, ◌++◌, length, get_or, refl, ◌∙◌, subst, inl, inr, ⊎_elim, arith}
 use Rattle.std.proofs.ByRecursion.{All-push, All-weaker, has_append_left, has_push}
 use Rattle.std.proofs.lemmas.List.{map_push}
 use Rattle.std.proofs.lemmas.Bool.{cases_eq, cases_order}
@@ -25,21 +25,6 @@ module _ (w : Wish) where
   -- no channel with this q and a d below this one serves
   abbrev pub NoneLower : ℕ → ℕ → Type 0
   NoneLower q d = (b : Channel) → Serves w b → b.q ≡ q → d ≤ b.d
-
-  pub lower_none : (q : ℕ) → NoneLower q 1
-  lower_none q b s e = let v = s.valid.0.1 in omega arith
-
-  pub lower_more : (q d : ℕ) → (Serves w (asked w q d) → ⊥) → NoneLower q d → NoneLower q (d + 1)
-  lower_more q d n l b s e =
-      let m = l b s e in
-      let ne : b.d ≡ d → ⊥ = λ f. n (subst (Serves w) (is_asked b q d s e f) s) in
-      omega (arith, ne)
-
-  pub lower_all : (q d : ℕ) → 5 ≤ d → NoneLower q d → (b : Channel) → Serves w b → b.q ≡ q → ⊥
-  lower_all q d h l b s e = let m = l b s e in let v = s.valid.1 in omega arith
-
-  pub lower_found : (q d : ℕ) (c : CodeChannel) → settings c ≡ asked w q d → Serves w (settings c) → NoneLower q d → Serves w (settings c) × ((settings c).q ≡ q) × NoneLower q (settings c).d
-  lower_found q d c e s l = (s, ap (λ (x : Channel). x.q) e, subst (NoneLower q) (sym (ap (λ (x : Channel). x.d) e)) l)
 
   -- no channel with a q below this one serves
   abbrev pub NoneNarrower : ℕ → Type 0

@@ -1,5 +1,5 @@
 use Rattle.channels.specs.Settings.{settings}
-use Rattle.command_words.proofs.Grown.{each_none, each_more, each_all}
+use Rattle.command_words.proofs.Grown.{each_none, each_more}
 use Rattle.speakall.specs.Plan.{size}
 use Rattle.std.proofs.Common.{vec_items}
 use Rattle.ice_speakers.specs.Speakers.{Says}
@@ -12,6 +12,3 @@ pub loop-spoken-preserved : goal.loop-spoken-preserved
 loop-spoken-preserved c =
     simp c.in_ok-push.ensures.items
     (each_more (Says (size (settings c.args.channel))) c.args.all.now c.loop-spoken.spoken-index (vec_items c.loop-spoken.speakers) c.spoken-item.result _ c.loop-spoken-test.true c.spoken-item.is (record { number = c.narrowed-number.ensures; message = c.in_ok-message.ensures }) c.loop-spoken.invariant)
-
-pub returns : goal.returns
-returns c = each_all (Says (size (settings c.args.channel))) c.args.all.now c.loop-spoken.spoken-index (vec_items c.loop-spoken.speakers) c.loop-spoken-test.false c.loop-spoken.invariant

@@ -1,5 +1,5 @@
-use Rattle.std.proofs.Common.{◌≡◌, [], ◌∷◌, ◌++◌, ap, ◌∙◌, sym, arith}
-use Rattle.std.proofs.lemmas.List.{append-nil, nil_from_length}
+use Rattle.std.proofs.Common.{◌≡◌, [], ◌∷◌, ◌∙◌, sym, arith}
+use Rattle.std.proofs.lemmas.List.{append-nil}
 use Rattle.channels.proofs.Digits.{one_lower}
 use Rattle.speakall.specs.Plan.{slot_at}
 use Rattle.channels.specs.Plans.{plan_in}
@@ -16,9 +16,3 @@ unfolding slot_at
 loop-digit-preserved c =
     let higher = c.loop-digit.invariant.0 in
     (c.in-Some.digit.now ∷ higher, one_lower c.next.new.self.iter.rest.now c.in-Some.digit.now higher c.loop-digit.invariant.1 c.in-Some.ensures.steps, omega arith, cc)
-
-pub returns : goal.returns
-returns c =
-    let none = nil_from_length c.loop-digit.digit-iterator.iter.rest.now c.in-None.ensures.steps.0 in
-    let all : plan_in c.args.self ≡ c.loop-digit.invariant.0 = c.loop-digit.invariant.1 ∙ ap (λ ds. ds ++ c.loop-digit.invariant.0) none in
-    record { is = cc; below = omega arith }

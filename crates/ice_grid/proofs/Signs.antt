@@ -1,17 +1,17 @@
 -- The letter of a sender is looked for place by place: what is left decides. Rows grow by a sign at a time, and the lines above by a place.
--- letter_same, letter_here, letter_more, letter_none; put_both; signs_none, signs_more, signs_not, signs_all; header_none, header_more; header_here, header_not; places, headers_more, headers_all; label_padded. Assumes nothing.
+-- letter_here, letter_more, letter_none; put_both; signs_none, signs_more, signs_not, signs_all; header_none, header_more; header_here, header_not; places, headers_more; label_padded. Assumes nothing.
 use Rattle.std.proofs.Common.{◌≡◌, ℕ, ◌+◌, ◌-◌, ◌/◌, ◌%◌, ◌^◌, ◌<◌, ◌≤◌, Bool, true, false, cond, eqb, ltb, List, [], ◌∷◌, ◌++◌, ◌⊎◌, length, get_or, take, string_bytes, codes, decimal, String, sym, refl, ap, ◌∙◌, ⊎_elim, append_assoc, add-one, arith}
 use lib.Utf8.{encode}
 use Rattle.std.specs.List.{flat_map}
 use Rattle.std.specs.Fmt.{before_digits, char_count, fill_after_digits, fill_text, format_spec, padded_integral}
 use Rattle.std.proofs.lemmas.Fmt.{decimal_digit, decimal_step}
 use Rattle.std.proofs.lemmas.Grind.{flat_map-append}
-use Rattle.std.proofs.lemmas.List.{append-nil, length-append, map_push, take_all, take_more}
+use Rattle.std.proofs.lemmas.List.{append-nil, length-append, map_push, take_more}
 use Rattle.std.proofs.lemmas.Bool.{cases_lt, cond-false, cond-true, eq-eqb, le-ltb, lt-ltb, ne_eqb}
 use Rattle.std.specs.declared.alloc.Global.{Global}
 use Rattle.frames.specs.declared.slot.Slot.{Slot}
 use Rattle.frames.specs.Slots.{slot_in}
-use Rattle.ice_grid.specs.Marks.{blanks_of, digit_of, digits_to, header_of, headers_of, letter_of, lines_in, mark_of, marks_to, signs_of}
+use Rattle.ice_grid.specs.Marks.{blanks_of, digit_of, digits_to, header_of, letter_of, lines_in, mark_of, marks_to, signs_of}
 
 no_letter : (n : ℕ) (xs : List ℕ) → letter_of n xs [] ≡ 63
 unfolding letter_of
@@ -19,7 +19,7 @@ no_letter n [] = refl
 no_letter n (x ∷ xs) = refl
 
 module _ (n : ℕ) (xs ys : List ℕ) where
-  pub letter_same : (ms ls : List ℕ) → xs ≡ ms → ys ≡ ls → letter_of n xs ys ≡ letter_of n ms ls
+  letter_same : (ms ls : List ℕ) → xs ≡ ms → ys ≡ ls → letter_of n xs ys ≡ letter_of n ms ls
   letter_same ms ls a b = ap (λ zs. letter_of n zs ys) a ∙ ap (letter_of n ms) b
 
   letter_step : (ms ls : List ℕ) (m l : ℕ) → xs ≡ m ∷ ms → ys ≡ l ∷ ls → letter_of n xs ys ≡ cond (eqb m n) l (letter_of n ms ls)
@@ -105,10 +105,6 @@ module _ (q : ℕ) where
       g ∙ ap (λ (z : List (List ℕ)). z ++ header_of q (get_or places i 0)) e
       ∙ ap (λ (z : List (List ℕ)). flat_map (header_of q) (take i places) ++ z) (sym (append-nil (header_of q (get_or places i 0))))
       ∙ sym (ap (flat_map (header_of q)) (take_more places i 0 h) ∙ flat_map-append (header_of q) (take i places) (get_or places i 0 ∷ []))
-
-  pub headers_all : (i : ℕ) (ls : List (List ℕ)) → 3 ≤ i → ls ≡ flat_map (header_of q) (take i places) → ls ≡ headers_of q
-  headers_all i ls h e =
-      e ∙ ap (flat_map (header_of q)) (take_all i places h) ∙ ap (λ (z : List (List ℕ)). header_of q 100 ++ (header_of q 10 ++ z)) (append-nil (header_of q 1)) ∙ sym (append_assoc (header_of q 100) (header_of q 10) (header_of q 1))
 
 -- a number in three places
 padded_by : (n k : ℕ) → length (decimal n) ≡ k → padded_integral (format_spec 32 0 0 3 (2 ^ 64 - 1)) false [] (decimal n) ≡ before_digits (format_spec 32 0 0 3 (2 ^ 64 - 1)) false [] k ++ (decimal n ++ fill_text (format_spec 32 0 0 3 (2 ^ 64 - 1)) (fill_after_digits (format_spec 32 0 0 3 (2 ^ 64 - 1)) false [] k))

@@ -1,9 +1,9 @@
 -- Numbers as text, by one more at a time, and the slots of a plan, part by part.
--- spaced_none, spaced_more, spaced_all; slot_in_part, slot_or_none, slots_all; heard_none, heard_one, heard_many. Assumes nothing.
+-- spaced_none, spaced_more; slot_in_part, slot_or_none, slots_all; heard_none, heard_one, heard_many. Assumes nothing.
 use Rattle.std.proofs.Common.{◌≡◌, ℕ, zero, suc, Option, Some, None, MatchOption, cond, ltb, map, refl, arith, ◌+◌, ◌<◌, ◌≤◌, List, [], ◌∷◌, ◌++◌, length, get_or, take, codes, decimal, sym, ap, ◌∙◌, append_assoc, add-one}
 use Rattle.std.specs.List.{cons_option, filter_map, range_with_len}
 use Rattle.std.proofs.lemmas.Bool.{cond-false, cond-true, eq-eqb, le-ltb, lt-ltb, ne_eqb}
-use Rattle.std.proofs.lemmas.List.{append-nil, map-id, take_all, take_more}
+use Rattle.std.proofs.lemmas.List.{append-nil, map-id, take_more}
 use Rattle.std.proofs.lemmas.List.Elements.{filter_map-append}
 use Rattle.std.proofs.lemmas.List.FromFn.{map-range_with_len_more}
 use Rattle.speakall.specs.Plan.{Plan, slot_at}
@@ -22,9 +22,6 @@ spaced_push (x ∷ xs) n = ap (λ (z : List ℕ). (codes " " ++ decimal x) ++ z)
 pub spaced_more : (xs : List ℕ) (i : ℕ) (t u one : List ℕ) → i < length xs → t ≡ spaced_of (take i xs) → one ≡ codes " " ++ decimal (get_or xs i 0) → u ≡ t ++ one → u ≡ spaced_of (take (i + 1) xs)
 spaced_more xs i t u one h e o g =
     g ∙ ap (λ (z : List ℕ). z ++ one) e ∙ ap (λ (z : List ℕ). spaced_of (take i xs) ++ z) o ∙ sym (spaced_push (take i xs) (get_or xs i 0)) ∙ ap spaced_of (sym (take_more xs i 0 h))
-
-pub spaced_all : (xs : List ℕ) (i : ℕ) (t : List ℕ) → length xs ≤ i → t ≡ spaced_of (take i xs) → t ≡ spaced_of xs
-spaced_all xs i t h e = e ∙ ap spaced_of (take_all i xs h)
 
 range_push : (n : ℕ) → range_with_len 0 (n + 1) ≡ range_with_len 0 n ++ (n ∷ [])
 range_push n =

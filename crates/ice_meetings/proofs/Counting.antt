@@ -1,5 +1,5 @@
 -- The highest count: what is left decides, and once the limit is reached nothing left can change it.
--- With, with_none, with_more, with_done, with_all; Most, most_none, most_more, most_all. Assumes nothing.
+-- With, with_more, with_done, with_all; Most, most_more, most_all. Assumes nothing.
 use Rattle.std.proofs.Common.{◌≡◌, ℕ, ◌+◌, ◌<◌, ◌≤◌, min, max, List, [], ◌∷◌, ◌++◌, map, length, get_or, drop, refl, ap, ◌∙◌, arith}
 use Rattle.speakall.specs.Plan.{Channel}
 use Rattle.std.proofs.lemmas.List.{at_drop_more, at_drop_all}
@@ -30,9 +30,6 @@ module _ (limit : ℕ) (f : ℕ → ℕ) (xs : List ℕ) (most : ℕ) where
     pub low : top ≤ limit
     pub left : max top (most_of limit (map f (drop i xs))) ≡ max most (most_of limit (map f xs))
 
-  pub with_none : most ≤ limit → With 0 most
-  with_none h = record { low = h; left = refl }
-
   pub with_more : (i top x y t : ℕ) → i < length xs → x ≡ f (get_or xs i 0) → y ≡ min x limit → t ≡ max top y → With i top → With (i + 1) t
   with_more i top x y t h e a b so =
       let l = so.left in
@@ -61,9 +58,6 @@ module _ (limit : ℕ) (c : Channel) (ns : List ℕ) where
   pub record Most (ms : List ℕ) (top : ℕ) : Type 0 where
     pub low : top ≤ limit
     pub left : max top (most_of limit (counts_of c ms)) ≡ most_of limit (counts_of c ns)
-
-  pub most_none : Most ns 0
-  most_none = record { low = omega arith; left = omega arith }
 
   pub most_more : (ms : List ℕ) (n : ℕ) (os : List ℕ) (top t : ℕ) → ms ≡ n ∷ os → (t ≤ limit) × (t ≡ max top (most_of limit (map (meets_in c n) os))) → Most ms top → Most os t
   unfolding counts_of

@@ -1,7 +1,8 @@
 -- A padded message by zones: its own bytes, the byte 128, zeros, the length; and its words and blocks, one after the other.
--- padding-first, padding-zero, padding_field, padded_first, padded_rest, words_made, blocks_none, blocks_more, digest_blocks. Assumes nothing.
-use Rattle.std.proofs.Common.{◌≡◌, ℕ, suc, ◌+◌, ◌-◌, ◌*◌, ◌/◌, ◌<◌, ◌≤◌, List, ◌∷◌, ◌++◌, length, get_or, replicate, sym, refl, ap, ◌∙◌, add-one, arith}
+-- padding-first, padding-zero, padding_field, padded_first, padded_rest, word_made, words_made, blocks_none, blocks_more, digest_blocks. Assumes nothing.
+use Rattle.std.proofs.Common.{◌≡◌, ℕ, suc, ◌+◌, ◌-◌, ◌*◌, ◌/◌, ◌^◌, ◌<◌, ◌≤◌, List, ◌∷◌, ◌++◌, length, get_or, replicate, sym, refl, ap, ◌∙◌, add-one, arith}
 use Rattle.std.proofs.lemmas.List.{get_or_append_left, get_or-append_right, get_or-replicate, length-append, length-replicate}
+use Rattle.std.specs.Int.{from_be_bytes, w32}
 use Rattle.std.proofs.lemmas.List.FromFn.{fill_by_all}
 use Rattle.sha256.specs.Constants.{initial}
 use Rattle.sha256.specs.Padding.{zeros, length_field, padding, padded, word_at, words_from}
@@ -42,6 +43,11 @@ unfolding padded
 padded_rest a b i h =
     let l = length-append a b in
     sym (get_or-append_right (a ++ b) (padding (length (a ++ b))) (length a + length b) i 0 l h ∙ ap (λ (n : ℕ). get_or (padding n) (i - (length a + length b)) 0) l)
+
+pub word_made : (bs ws : List ℕ) (n : ℕ) → length ws ≡ 4 → ((k : ℕ) → k < 4 → get_or ws k 0 ≡ get_or bs (4 * n + k) 0) → from_be_bytes w32 ws ≡ word_at bs n
+word_made bs ws n l h =
+    let first : 4 * n + 0 ≡ 4 * n = omega arith in
+    ap (from_be_bytes w32) (fill_by_all (λ (k : ℕ). get_or bs (4 * n + k) 0) ws 4 0 l h) ∙ ap (λ (i : ℕ). get_or bs i 0 * 2 ^ 24 + get_or bs (4 * n + 1) 0 * 2 ^ 16 + get_or bs (4 * n + 2) 0 * 2 ^ 8 + get_or bs (4 * n + 3) 0) first
 
 pub words_made : (bs ws : List ℕ) (from : ℕ) → length ws ≡ 16 → ((k : ℕ) → k < 16 → get_or ws k 0 ≡ word_at bs (from + k)) → ws ≡ words_from bs from 16
 unfolding words_from

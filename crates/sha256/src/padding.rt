@@ -55,12 +55,7 @@ fn word_at(message: &Message, n: usize) -> u32
     requires { n < 16 * block_count message.now }
     ensures { result ≡ word_at (padded (bytes message.now)) n }
 {
-    u32::from_be_bytes([
-        padded_at(message, 4 * n),
-        padded_at(message, 4 * n + 1),
-        padded_at(message, 4 * n + 2),
-        padded_at(message, 4 * n + 3),
-    ])
+    u32::from_be_bytes(array::from_fn(|k| padded_at(message, 4 * n + k)))
 }
 
 // The words of block n.

@@ -1,11 +1,8 @@
 use Rattle.std.proofs.Common.{get_or, vec_items, ap, ◌∙◌}
 use Rattle.ice_grid.specs.Marks.{lines_in}
-use Rattle.ice_grid.proofs.Signs.{header_here, header_not, headers_more, headers_all, places}
+use Rattle.ice_grid.proofs.Signs.{header_here, header_not, headers_more, places}
 use Rattle.ice_grid.proofs.grid.headers.Goals as goal
 use Rattle.ice_grid.proofs.grid.headers.Goals.{then-place-q+in_ok-header+in_ok-push, else-place-q}
-
-pub loop-place-init : goal.loop-place-init
-loop-place-init c = ap lines_in c.new-lines.ensures.items
 
 pub loop-place-preserved : goal.loop-place-preserved
 loop-place-preserved c =
@@ -17,6 +14,3 @@ loop-place-preserved c =
       | else-place-q w ↦
           ap (λ v. lines_in (vec_items v)) w.lines-is ∙ header_not c.args.q (get_or places c.loop-place.place-index 0) (vec_items c.loop-place.lines) w.if-place-q.false
     ])
-
-pub returns : goal.returns
-returns c = headers_all c.args.q c.loop-place.place-index (lines_in (vec_items c.loop-place.lines)) c.loop-place-test.false c.loop-place.invariant

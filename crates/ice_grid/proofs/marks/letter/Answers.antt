@@ -1,14 +1,7 @@
-use Rattle.std.proofs.Common.{rules, sym, ap, ◌∙◌}
-use Rattle.std.specs.Iterator.Adapters.{zip_first, zip_second}
-use Rattle.std.specs.Slice.Iter.{iter_rest}
+use Rattle.std.proofs.Common.{sym, ◌∙◌}
 use Rattle.std.proofs.lemmas.Slice.Zip.{either_empty_from_Zip}
-use Rattle.ice_grid.proofs.Signs.{letter_same, letter_here, letter_more, letter_none}
+use Rattle.ice_grid.proofs.Signs.{letter_here, letter_more, letter_none}
 use Rattle.ice_grid.proofs.marks.letter.Goals as goal
-
-pub loop-other-init : goal.loop-other-init
-loop-other-init c =
-    let z = c.into_iter-other-iterator.ensures.into_iter_gives in
-    ((tt, tt), tt, letter_same c.args.number _ _ _ _ (ap (λ i. iter_rest (zip_first i)) z ∙ ap iter_rest c.zip-other-items.ensures.first ∙ c.iter.ensures.rest) (ap (λ i. iter_rest (zip_second i)) z ∙ search rules))
 
 pub returns-then-other-number : goal.returns-then-other-number
 returns-then-other-number c =

@@ -1,5 +1,5 @@
 use Rattle.std.proofs.Common.{rules}
-use Rattle.ice_lines.proofs.Spaced.{spaced_none, spaced_more, spaced_all}
+use Rattle.ice_lines.proofs.Spaced.{spaced_none, spaced_more}
 use Rattle.ice_lines.proofs.lines.spaced.Goals as goal
 
 pub loop-n-init : goal.loop-n-init
@@ -7,6 +7,3 @@ loop-n-init c = search (rules, spaced_none)
 
 pub loop-n-preserved : goal.loop-n-preserved
 loop-n-preserved c = search (rules, spaced_more)
-
-pub returns : goal.returns
-returns c = search (rules, spaced_all)

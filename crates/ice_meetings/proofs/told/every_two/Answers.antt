@@ -6,9 +6,6 @@ use Rattle.ice_meetings.specs.Meets.{lines_in}
 use Rattle.ice_meetings.proofs.Pairs.{two_more, two_all}
 use Rattle.ice_meetings.proofs.told.every_two.Goals as goal
 
-pub loop-left-init : goal.loop-left-init
-loop-left-init c = simp c.new-lines.ensures.items
-
 pub loop-left-preserved : goal.loop-left-preserved
 loop-left-preserved c =
     two_more (settings c.args.channel) c.args.numbers.now c.loop-left.left.now _ _ (lines_in (vec_items c.loop-left.lines)) _ (first_rest c.loop-left.left.now 0 (omega arith)) c.in_ok-meet_with.ensures c.loop-left.invariant

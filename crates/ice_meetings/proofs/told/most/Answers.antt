@@ -2,11 +2,8 @@ use Rattle.std.proofs.lemmas.List.{nil_from_length}
 use Rattle.std.proofs.Common.{arith}
 use Rattle.std.proofs.lemmas.Slice.{first_rest}
 use Rattle.channels.specs.Settings.{settings}
-use Rattle.ice_meetings.proofs.Counting.{most_none, most_more, most_all}
+use Rattle.ice_meetings.proofs.Counting.{most_more, most_all}
 use Rattle.ice_meetings.proofs.told.most.Goals as goal
-
-pub loop-left-init : goal.loop-left-init
-loop-left-init c = most_none c.args.limit (settings c.args.channel) c.args.numbers.now
 
 pub loop-left-preserved : goal.loop-left-preserved
 loop-left-preserved c =

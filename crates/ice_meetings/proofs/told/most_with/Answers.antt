@@ -1,10 +1,7 @@
 use Rattle.channels.specs.Settings.{settings}
 use Rattle.ice_meetings.specs.Meets.{meets_in}
-use Rattle.ice_meetings.proofs.Counting.{with_none, with_more, with_done, with_all}
+use Rattle.ice_meetings.proofs.Counting.{with_more, with_done, with_all}
 use Rattle.ice_meetings.proofs.told.most_with.Goals as goal
-
-pub loop-other-init : goal.loop-other-init
-loop-other-init c = with_none c.args.limit (meets_in (settings c.args.channel) c.args.number) c.args.others.now c.args.most c.requires
 
 pub returns-then-top-limit : goal.returns-then-top-limit
 returns-then-top-limit c =

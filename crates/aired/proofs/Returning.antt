@@ -1,6 +1,6 @@
 -- A frame that went through bytes: what was read of them, and that the frame is the one that was written.
 -- came_back, never_none, same-channel, only_memory, bytes_are, returned. Assumes nothing.
-use Rattle.std.proofs.Common.{◌≡◌, ℕ, ◌*◌, ◌^◌, ◌<◌, true, ◌⊎◌, List, ◌++◌, length, Some, None, vec_items, Option, sym, refl, ap, ◌∙◌, subst, ap₂, ⊎_elim, arith}
+use Rattle.std.proofs.Common.{◌≡◌, ℕ, ◌*◌, ◌^◌, ◌<◌, true, ◌⊎◌, List, ◌++◌, length, Some, None, vec_items, Option, sym, ap, ◌∙◌, subst, ap₂, ⊎_elim, arith}
 use Rattle.std.specs.List.{flat_map}
 use Rattle.channels.specs.Settings.{settings}
 use Rattle.channels.specs.declared.channel.Channel.{Channel as CodeChannel}
@@ -13,7 +13,7 @@ use Rattle.records.specs.Hearing.{bytes_of_heard}
 use Rattle.records.specs.declared.heard.Heard.{Heard}
 use Rattle.reading.specs.Formats.{heard_format}
 use Rattle.reading.specs.Reading.{finished}
-use Rattle.readers.specs.Inputs.{HeardInputIs, Input, read_input, settings_if}
+use Rattle.readers.specs.Inputs.{HeardInputIs, read_input, settings_if}
 use Rattle.readers.specs.declared.heard_input.HeardInput.{HeardInput}
 use Rattle.speakall.specs.Plan.{Channel}
 use Rattle.writers.specs.Order.{InOrder}

@@ -24,7 +24,7 @@ use Rattle.frames.proofs.Own.{there_at}
 -- a word that is heard alone in a slot is one that was said in the slot of its plan
 said-alone : (q : ℕ) (ss : List Speaker) (x y : ℕ) (f : Plan) (w : ℕ) → heard q ss x y ≡ statement.One f w → (slot_at q f x ≡ y) × (w < p)
 unfolding heard
-said-alone q [] x y f w e = let z : ◌≡◌ {A = ℕ} 0 1 = cc in absurd (omega arith)
+said-alone q [] x y f w e = cc
 said-alone q (a ∷ as') x y f w e = ⊎_elim (λ h. joins (heard q as' x y) h (sym (ap (λ t. cond t (with_one a.plan (word_at a.message x) (heard q as' x y)) (heard q as' x y)) (eq-eqb (slot_at q a.plan x) y h)) ∙ e))
     (λ n. said-alone q as' x y f w (sym (ap (λ t. cond t (with_one a.plan (word_at a.message x) (heard q as' x y)) (heard q as' x y)) (ne_eqb (slot_at q a.plan x) y n)) ∙ e)) (cases_eq (slot_at q a.plan x) y)
   where
@@ -33,8 +33,8 @@ said-alone q (a ∷ as') x y f w e = ⊎_elim (λ h. joins (heard q as' x y) h (
         let same : a.plan ≡ f = cc in
         let word : word_at a.message x ≡ w = cc in
         (subst (λ (g : Plan). slot_at q g x ≡ y) same h, subst (λ (u : ℕ). u < p) word (rw (word_at_is a.message x) (slot_at_lt p a.message x (omega arith))))
-    joins (statement.One g v) h o = let z : ◌≡◌ {A = ℕ} 0 1 = cc in absurd (omega arith)
-    joins statement.Noise h o = let z : ◌≡◌ {A = ℕ} 0 1 = cc in absurd (omega arith)
+    joins (statement.One g v) h o = cc
+    joins statement.Noise h o = cc
 
 -- what stands in a slot could be said there
 abbrev Sayable : Channel → (x y : ℕ) → Slot → Type 0

@@ -38,11 +38,11 @@ taken_there c h = taken_for_there c h.frame h.part h.slot h.what
 
 in_place : (b t : Bool) → t ≡ true → cond b (cond t None (Some Sender)) (Some Order) ≡ None → b ≡ true
 in_place true t e m = refl
-in_place false t e m = let z : ◌≡◌ {A = ℕ} 0 1 = cc in absurd (omega arith)
+in_place false t e m = cc
 
 out_of_place : (b t : Bool) (f : Fault) → t ≡ true → cond b (cond t None (Some Sender)) (Some Order) ≡ Some f → (b ≡ false) × (Some Order ≡ Some f)
-out_of_place true true f e m = let z : ◌≡◌ {A = ℕ} 0 1 = cc in absurd (omega arith)
-out_of_place true false f e m = let z : ◌≡◌ {A = ℕ} 0 1 = cc in absurd (omega arith)
+out_of_place true true f e m = cc
+out_of_place true false f e m = cc
 out_of_place false t f e m = (refl, m)
 
 -- a record of another frame is passed over

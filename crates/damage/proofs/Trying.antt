@@ -37,8 +37,7 @@ tried s e ws kept f r lf reduced on is = rw is (go (below limit f && leb (off_of
         let same : m ≡ f = only_near 251 s (few_units 251 (omega arith)) (words_in kept) le sound m f close.long lf (below-p m close.small) (below_reduced f reduced) (omega (arith, agrees_off m (words_in kept) on-m)) (omega (arith, agrees_off f (words_in kept) on)) in
         let it : Near s e (words_in ws) f = subst (Near s e (words_in ws)) same close in
         let z : true ≡ false = sym (and_from _ _ (true_from _ it.small) (le-leb _ _ it.near)) ∙ t in
-        let c : ◌≡◌ {A = ℕ} 0 1 = cc in
-        absurd (omega arith)
+        cc
 
 eqb_turned : (x y : ℕ) → eqb x y ≡ eqb y x
 eqb_turned x y = ⊎_elim (λ (e : x ≡ y). rw e refl) (λ (ne : x ≡ y → ⊥). ne_eqb x y ne ∙ sym (ne_eqb y x (λ e. ne (sym e)))) (cases_eq x y)
@@ -98,7 +97,7 @@ tried-weaker s e ws A B None f to t = to t
 tried-weaker s e ws A B (Some o) f to t = t
 
 pub tried-some : (s e : ℕ) (ws : List PartWord) (A B : Type 0) (r : Option ℕ) (f : List ℕ) → true ≡ is_some r → Tried s e ws A r f → Tried s e ws B r f
-tried-some s e ws A B None f is t = let z : ◌≡◌ {A = ℕ} 0 1 = cc in absurd (omega arith)
+tried-some s e ws A B None f is t = cc
 tried-some s e ws A B (Some o) f is t = t
 
 -- no message on the words kept is none on all words left

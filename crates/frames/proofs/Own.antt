@@ -20,8 +20,8 @@ use Rattle.speakall.proofs.Reached.{digits_equal}
 same_equal : (f g : Plan) → same f g ≡ true → f ≡ g
 unfolding same
 same_equal [] [] e = refl
-same_equal [] (y ∷ ys) e = let z : ◌≡◌ {A = ℕ} 0 1 = cc in absurd (omega arith)
-same_equal (x ∷ xs) [] e = let z : ◌≡◌ {A = ℕ} 0 1 = cc in absurd (omega arith)
+same_equal [] (y ∷ ys) e = cc
+same_equal (x ∷ xs) [] e = cc
 same_equal (x ∷ xs) (y ∷ ys) e =
     let a = and_parts (eqb x y) (same xs ys) e in
     ap₂ (λ (z : ℕ) (zs : List ℕ). z ∷ zs) (eqb-true x y a.0) (same_equal xs ys a.1)

@@ -9,7 +9,7 @@ use Rattle.std.proofs.lemmas.Iterator.Consumers.{YieldsList-end, YieldsList-turn
 use Rattle.std.specs.Iterator.{Yields}
 use Rattle.std.specs.List.{enumerate_from, filter}
 use Rattle.std.specs.Option.{is_some}
-use Rattle.std.proofs.lemmas.Bool.{and_from, and_parts, cases_eq, cases_lt, le-leb, leb-true}
+use Rattle.std.proofs.lemmas.Bool.{and_from, and_parts, cases_lt, le-leb, leb-true}
 use Rattle.messages.proofs.Listening.{agrees-take, below_reduced}
 use Rattle.polynomials.proofs.Sound.{sound-take}
 use Rattle.readings.proofs.Blocks.{length-left, map-left, sound-left}
@@ -130,10 +130,6 @@ module _ (w s e : ℕ) (some : 0 < e) (enough : 2 * e + s ≤ w) where
       let taken = div-mul-le_self (w - s) e in
       let all = blocks-all in
       ⊎_elim (λ (lt : n < e). let more = mul-le-mul_right b lt in let pos = block-some in absurd (omega arith)) (λ (le : e ≤ n). le) (cases_lt n e)
-
--- a level one turn on
-pub more : (P : ℕ → Type 0) (low k : ℕ) → ((x : ℕ) → low ≤ x → x < k → P x) → P k → (x : ℕ) → low ≤ x → x < k + 1 → P x
-more P low k before here x a b = ⊎_elim (λ (e : x ≡ k). subst P (sym e) here) (λ (ne : x ≡ k → ⊥). before x a (omega arith)) (cases_eq x k)
 
 pub length_taken : (n : ℕ) (xs : List ℕ) → length (take (n - 0) xs) ≤ n
 length_taken n xs = rw (length-take (n - 0) xs) (omega arith)

@@ -1,6 +1,6 @@
 -- The speakers of a frame one after the other: the first that cannot speak, and what is heard of those that can.
 -- refusal_here, refusal_more, refusal_none, heard_more, refusal_never. Assumes nothing.
-use Rattle.std.proofs.Common.{◌≡◌, ℕ, zero, suc, ◌+◌, ◌<◌, ◌≤◌, List, [], ◌∷◌, length, get_or, drop, Some, None, vec_items, Option, sym, refl, ap, ◌∙◌, subst, ap₂, arith}
+use Rattle.std.proofs.Common.{◌≡◌, ℕ, zero, suc, ◌+◌, ◌<◌, ◌≤◌, List, [], ◌∷◌, length, get_or, drop, Some, None, vec_items, Option, sym, refl, ap, ◌∙◌, subst, ap₂}
 use Rattle.channels.specs.declared.fault.Fault.{Fault}
 use Rattle.std.proofs.lemmas.List.{at_drop_more, at_drop_all}
 use Rattle.frames.specs.declared.speaker.Speaker.{Speaker}

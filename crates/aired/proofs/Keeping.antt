@@ -1,12 +1,12 @@
 -- What is heard when some senders speak comes back from its records: by induction over the slots, what is put into
 -- silent slots by the records of the first n is what stands in those n.
 -- kept, framed. Assumes nothing.
-use Rattle.std.proofs.Common.{◌≡◌, ℕ, zero, suc, ◌+◌, ◌*◌, ◌/◌, ◌%◌, ◌^◌, ◌<◌, ◌≤◌, Bool, true, false, cond, eqb, ltb, List, [], ◌∷◌, ◌++◌, length, get_or, set, replicate, Some, None, sym, refl, ap, ◌∙◌, subst, ⊎_elim, arith}
+use Rattle.std.proofs.Common.{◌≡◌, ℕ, zero, suc, ◌+◌, ◌*◌, ◌/◌, ◌%◌, ◌^◌, ◌<◌, ◌≤◌, true, cond, List, [], ◌∷◌, ◌++◌, length, get_or, set, replicate, Some, None, sym, refl, ap, ◌∙◌, subst, ⊎_elim, arith}
 use Rattle.std.proofs.lemmas.List.{ext_get_or, get_or-set_same, get_or-set_other, length-set, length-replicate}
 use Rattle.std.proofs.lemmas.Bool.{cases_eq, eq-eqb, ne_eqb, ltb-true}
 use Rattle.frames.specs.declared.slot.Slot.{Slot}
 use Rattle.frames.specs.declared.slot.Slot.TheVariants.{Silence, One, Noise}
-use Rattle.frames.specs.Slots.{Hears, is_there, slot_in, slot_of, there_in}
+use Rattle.frames.specs.Slots.{Hears, is_there, slot_of, there_in}
 use Rattle.records.specs.declared.heard.Heard.{Heard}
 use Rattle.records.specs.declared.heard.What.{What}
 use Rattle.records.specs.declared.heard.What.TheVariants.{Word, Noise as NoiseHeard}
@@ -15,15 +15,16 @@ use Rattle.speakall.specs.Frame.{Speaker, heard, p, word_at, with_one}
 use Rattle.speakall.specs.Plan.{Channel, Plan, plan_of, slot_at}
 use Rattle.speakall.proofs.Polynomial.{slot_at_lt, word_at_is}
 use Rattle.words.specs.Bytes.{air_bytes}
-use Rattle.words.specs.Counting.{Speaks, is_counted, sender_in, word_in}
+use Rattle.words.specs.Counting.{Speaks, sender_in, word_in}
 use Rattle.words.proofs.Tested.{tested_some}
 use Rattle.aired.specs.Aired.{Kept, outside, placed, placed_one, record_with, records_of, records_to, taken_for, what_if}
-use Rattle.aired.proofs.Recording.{part_lt, there_at}
+use Rattle.aired.proofs.Recording.{part_lt}
+use Rattle.frames.proofs.Own.{there_at}
 
 -- a word that is heard alone in a slot is one that was said in the slot of its plan
 said-alone : (q : ℕ) (ss : List Speaker) (x y : ℕ) (f : Plan) (w : ℕ) → heard q ss x y ≡ statement.One f w → (slot_at q f x ≡ y) × (w < p)
 unfolding heard
-said-alone q [] x y f w e = let z : ◌≡◌ {A = ℕ} 0 1 = cc in absurd (omega arith)
+said-alone q [] x y f w e = cc
 said-alone q (a ∷ as') x y f w e = ⊎_elim (λ h. joins (heard q as' x y) h (sym (ap (λ t. cond t (with_one a.plan (word_at a.message x) (heard q as' x y)) (heard q as' x y)) (eq-eqb (slot_at q a.plan x) y h)) ∙ e))
     (λ n. said-alone q as' x y f w (sym (ap (λ t. cond t (with_one a.plan (word_at a.message x) (heard q as' x y)) (heard q as' x y)) (ne_eqb (slot_at q a.plan x) y n)) ∙ e)) (cases_eq (slot_at q a.plan x) y)
   where
@@ -32,8 +33,8 @@ said-alone q (a ∷ as') x y f w e = ⊎_elim (λ h. joins (heard q as' x y) h (
         let same : a.plan ≡ f = cc in
         let word : word_at a.message x ≡ w = cc in
         (subst (λ (g : Plan). slot_at q g x ≡ y) same h, subst (λ (u : ℕ). u < p) word (rw (word_at_is a.message x) (slot_at_lt p a.message x (omega arith))))
-    joins (statement.One g v) h o = let z : ◌≡◌ {A = ℕ} 0 1 = cc in absurd (omega arith)
-    joins statement.Noise h o = let z : ◌≡◌ {A = ℕ} 0 1 = cc in absurd (omega arith)
+    joins (statement.One g v) h o = cc
+    joins statement.Noise h o = cc
 
 -- what stands in a slot could be said there
 abbrev Sayable : Channel → (x y : ℕ) → Slot → Type 0

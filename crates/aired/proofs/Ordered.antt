@@ -86,8 +86,8 @@ outside_none c f low (h ∷ hs) o =
   where
     go : (a b d : Bool) → b ≡ true → d ≡ true → cond a (cond (b && d) None (Some Order)) None ≡ None
     go true true true x y = refl
-    go true true false x y = let z : ◌≡◌ {A = ℕ} 0 1 = cc in absurd (omega arith)
-    go true false d x y = let z : ◌≡◌ {A = ℕ} 0 1 = cc in absurd (omega arith)
+    go true true false x y = cc
+    go true false d x y = cc
     go false b d x y = refl
 
 pub records_inside : (c g : Channel) (f : ℕ) (slots : List Slot) (rs : List Heard) → 0 < c.q → c.q < 252 → g ≡ c → rs ≡ records_of c f slots → outside g f rs ≡ None

@@ -1,10 +1,11 @@
 -- The records of slots, one slot after the other.
--- part_lt, there_at, records_none, records_more. Assumes nothing.
-use Rattle.std.proofs.Common.{◌≡◌, ℕ, zero, suc, ◌+◌, ◌*◌, ◌/◌, ◌%◌, ◌<◌, ◌≤◌, true, ◌&&◌, List, [], ◌∷◌, ◌++◌, get_or, sym, refl, ap, ◌∙◌, ⊎_elim, mul-le-mul, add-one, arith}
-use Rattle.std.proofs.lemmas.Bool.{and_parts, cases_order}
+-- part_lt, records_more. Assumes nothing.
+use Rattle.std.proofs.Common.{◌≡◌, ℕ, suc, ◌+◌, ◌*◌, ◌/◌, ◌<◌, ◌≤◌, List, ◌++◌, get_or, ap, ◌∙◌, ⊎_elim, mul-le-mul, ap₂, arith}
+use Rattle.std.proofs.lemmas.Bool.{cases_order}
 use Rattle.frames.specs.declared.slot.Slot.{Slot}
 use Rattle.frames.specs.declared.slot.Slot.TheVariants.{Silence}
-use Rattle.frames.specs.Slots.{is_there, there_in}
+use Rattle.frames.specs.Slots.{slot_in}
+use lib.Arith.{digits_div, digits_mod}
 use Rattle.aired.specs.Aired.{record_with, records_to, what_if}
 
 -- the part of a place among q × q
@@ -13,16 +14,11 @@ part_lt q i h l =
     let big : q ≤ i / q → ⊥ = λ g. let m : q * q ≤ q * (i / q) = mul-le-mul (omega arith) g in omega arith in
     ⊎_elim (λ e. absurd (big (omega arith))) (λ o. ⊎_elim (λ x. x) (λ g. absurd (big (omega arith))) o) (cases_order (i / q) q)
 
-pub there_at : (n : ℕ) (ss : List Slot) (i : ℕ) → there_in n ss ≡ true → is_there n (get_or ss i Silence) ≡ true
-unfolding there_in
-there_at n [] i t = refl
-there_at n (s ∷ ss) zero t = (and_parts (is_there n s) (there_in n ss) t).0
-there_at n (s ∷ ss) (suc i) t = there_at n ss i (and_parts (is_there n s) (there_in n ss) t).1
-
-pub records_none : (q f : ℕ) (slots : List Slot) → records_to q f slots 0 ≡ []
+-- the record of slot y of part x after those before it
+pub records_more : (q f : ℕ) (slots : List Slot) (x y : ℕ) → y < q → records_to q f slots (x * q + (y + 1)) ≡ records_to q f slots (x * q + y) ++ record_with f x y (what_if f x (slot_in q slots x y))
 unfolding records_to
-records_none q f slots = refl
-
-pub records_more : (q f : ℕ) (slots : List Slot) (n : ℕ) → records_to q f slots (n + 1) ≡ records_to q f slots n ++ record_with f (n / q) (n % q) (what_if f (n / q) (get_or slots n Silence))
-unfolding records_to
-records_more q f slots n = rw (add-one n) refl
+records_more q f slots x y h =
+    let n = x * q + y in
+    let next : x * q + (y + 1) ≡ suc n = omega arith in
+    ap (records_to q f slots) next ∙
+    ap₂ (λ (i j : ℕ). records_to q f slots n ++ record_with f i j (what_if f i (get_or slots n Silence))) (digits_div x h) (digits_mod x h)

@@ -1,6 +1,6 @@
 -- A frame that went through bytes: what was read of them, and that the frame is the one that was written.
 -- came_back, never_none, same-channel, only_memory, bytes_are, returned. Assumes nothing.
-use Rattle.std.proofs.Common.{◌≡◌, ℕ, ◌*◌, ◌^◌, ◌<◌, true, ◌⊎◌, List, ◌++◌, length, Some, None, vec_items, Option, sym, refl, ap, ◌∙◌, subst, ap₂, ⊎_elim, arith}
+use Rattle.std.proofs.Common.{◌≡◌, ℕ, ◌*◌, ◌^◌, ◌<◌, true, ◌⊎◌, List, ◌++◌, length, Some, None, vec_items, Option, sym, ap, ◌∙◌, subst, ap₂, ⊎_elim, arith}
 use Rattle.std.specs.List.{flat_map}
 use Rattle.channels.specs.Settings.{settings}
 use Rattle.channels.specs.declared.channel.Channel.{Channel as CodeChannel}
@@ -13,7 +13,7 @@ use Rattle.records.specs.Hearing.{bytes_of_heard}
 use Rattle.records.specs.declared.heard.Heard.{Heard}
 use Rattle.reading.specs.Formats.{heard_format}
 use Rattle.reading.specs.Reading.{finished}
-use Rattle.readers.specs.Inputs.{HeardInputIs, Input, read_input, settings_if}
+use Rattle.readers.specs.Inputs.{HeardInputIs, read_input, settings_if}
 use Rattle.readers.specs.declared.input_read.InputRead.{InputRead}
 use Rattle.speakall.specs.Plan.{Channel}
 use Rattle.writers.specs.Order.{InOrder}
@@ -31,7 +31,7 @@ module _ (c g : Channel) (f : ℕ) (slots : List Slot) (wide : 2 < c.q) (narrow 
       ap (λ (z : Channel). record { channel = Some z; reading = record { given = ws; ending = finished } }) same) is
 
   pub only_memory : (rs ws : List Heard) (e : Fault) → rs ≡ records_of c f slots → ws ≡ rs → (e ≡ Memory) ⊎ (outside g f ws ≡ Some e) → e ≡ Memory
-  only_memory rs ws e i w o = ⊎_elim (λ m. m) (λ s. let n = records_inside c g f slots ws (omega arith) narrow same (w ∙ i) in let z : ◌≡◌ {A = ℕ} 0 1 = cc in absurd (omega arith)) o
+  only_memory rs ws e i w o = ⊎_elim (λ m. m) (λ s. let n = records_inside c g f slots ws (omega arith) narrow same (w ∙ i) in cc) o
 
   pub bytes_are : (rs ws : List Heard) (bs : List ℕ) → rs ≡ records_of c f slots → ws ≡ rs → bs ≡ bytes_of_channel g.q g.d g.k ++ flat_map bytes_of_heard ws → bs ≡ bytes_of c f slots
   bytes_are rs ws bs e w b =
@@ -42,8 +42,8 @@ module _ (c g : Channel) (f : ℕ) (slots : List Slot) (wide : 2 < c.q) (narrow 
       subst (λ (z : Channel). Kept z f ws after) same kept ss slots long there hears (w ∙ e)
 
 pub never_none : (c : Channel) (o : Option CodeChannel) → o ≡ None → settings_if o ≡ Some c → ⊥
-never_none c None e s = let z : ◌≡◌ {A = ℕ} 0 1 = cc in omega arith
-never_none c (Some x) e s = let z : ◌≡◌ {A = ℕ} 0 1 = cc in omega arith
+never_none c None e s = cc
+never_none c (Some x) e s = cc
 
 pub same-channel : (c : Channel) (o : Option CodeChannel) (x : CodeChannel) → o ≡ Some x → settings_if o ≡ Some c → settings x ≡ c
 same-channel c o x e s = let r : Some (settings x) ≡ Some c = sym (ap settings_if e) ∙ s in cc

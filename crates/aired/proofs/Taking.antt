@@ -1,8 +1,8 @@
 -- Records put into the slots of a frame, one record after the other.
--- one_passed, one_here; placed_more, outside_more, outside_here, placed_all, outside_all. Assumes nothing.
-use Rattle.std.proofs.Common.{◌≡◌, ℕ, ◌+◌, ◌*◌, ◌^◌, ◌<◌, ◌≤◌, Bool, true, false, cond, ◌&&◌, eqb, ltb, List, length, get_or, drop, set, Some, None, Ok, Err, Option, Result, sym, refl, ap, ◌∙◌, arith, MatchResult}
+-- one_here; placed_more, outside_more, outside_here, placed_all, outside_all. Assumes nothing.
+use Rattle.std.proofs.Common.{◌≡◌, ℕ, ◌+◌, ◌*◌, ◌^◌, ◌<◌, ◌≤◌, Bool, true, false, cond, ◌&&◌, ltb, List, length, get_or, drop, set, Some, None, Ok, Err, Result, sym, refl, ap, ◌∙◌, MatchResult}
 use Rattle.std.proofs.lemmas.List.{at_drop_more, at_drop_all}
-use Rattle.std.proofs.lemmas.Bool.{and_parts, eq-eqb, ne_eqb}
+use Rattle.std.proofs.lemmas.Bool.{and_parts, eq-eqb}
 use Rattle.channels.specs.declared.fault.Fault.{Fault}
 use Rattle.channels.specs.declared.fault.Fault.TheVariants.{Order, Sender}
 use Rattle.frames.specs.declared.slot.Slot.{Slot}
@@ -38,19 +38,12 @@ taken_there c h = taken_for_there c h.frame h.part h.slot h.what
 
 in_place : (b t : Bool) → t ≡ true → cond b (cond t None (Some Sender)) (Some Order) ≡ None → b ≡ true
 in_place true t e m = refl
-in_place false t e m = let z : ◌≡◌ {A = ℕ} 0 1 = cc in absurd (omega arith)
+in_place false t e m = cc
 
 out_of_place : (b t : Bool) (f : Fault) → t ≡ true → cond b (cond t None (Some Sender)) (Some Order) ≡ Some f → (b ≡ false) × (Some Order ≡ Some f)
-out_of_place true true f e m = let z : ◌≡◌ {A = ℕ} 0 1 = cc in absurd (omega arith)
-out_of_place true false f e m = let z : ◌≡◌ {A = ℕ} 0 1 = cc in absurd (omega arith)
+out_of_place true true f e m = cc
+out_of_place true false f e m = cc
 out_of_place false t f e m = (refl, m)
-
--- a record of another frame is passed over
-pub one_passed : (c : Channel) (f : ℕ) (h : Heard) (s : List Slot) → (h.frame ≡ f → ⊥) → (outside_one c f h ≡ None) × (s ≡ placed_one c f h s)
-one_passed c f h s n = (
-  ap (λ t. cond t (cond (ltb h.part c.q && ltb h.slot c.q) None (Some Order)) None) (ne_eqb h.frame f n),
-  sym (ap (λ t. cond t (set s (h.part * c.q + h.slot) (taken_as c h)) s) (ne_eqb h.frame f n)),
-)
 
 -- one of this frame is put into its slot
 one_put : (c g : Channel) (f : ℕ) (h : Heard) (s : List Slot) (v : Slot) → h.frame ≡ f → g ≡ c → v ≡ taken_as g h → misplaced c h.part h.slot v ≡ None →

@@ -1,9 +1,9 @@
 // The records of a frame: one for each slot that isn't silent, in the order of parts and slots.
-ghost use Rattle.std.specs.Prelude.{◌≡◌, ◌*◌, ◌^◌, true, ◌++◌, length, MatchResult};
+ghost use Rattle.std.specs.Prelude.{◌≡◌, ◌^◌, true, MatchResult};
 ghost use Rattle.aired.specs.Aired.{record_with, records_of, what_if};
 ghost use Rattle.channels.specs.Settings.{settings};
 ghost use Rattle.channels.specs.declared.fault.Fault.TheVariants.{Memory as FaultMemory};
-ghost use Rattle.frames.specs.Slots.{is_there, there_in};
+ghost use Rattle.frames.specs.Slots.{is_there};
 ghost use Rattle.std.specs.Option.{option_to_list};
 
 use channels::{Channel, Fault};
@@ -29,47 +29,32 @@ fn what_of(channel: Channel, frame: u32, part: u8, slot: Slot) -> Option<What>
     }
 }
 
-// The record of slot y of a part, unless it is silent, put after the others.
-fn push(
-    records: &mut Vec<Heard>,
-    frame: u32,
-    part: u8,
-    slot: u8,
-    what: Option<What>,
-) -> Result<(), Fault>
-    ensures { MatchResult result (λ _. records.new.items ≡ records.old.items ++ record_with frame part slot what) (λ e. e ≡ FaultMemory) }
+// The record of slot y of a part, unless it is silent.
+fn record_of(channel: Channel, frame: u32, part: u8, y: u8, slot: Slot) -> Option<Heard>
+    requires { is_there (channel.q ^ channel.d) slot ≡ true }
+    ensures { option_to_list result ≡ record_with frame part y (what_if frame part slot) }
 {
-    if let Some(what) = what {
-        records.push(Heard {
-            frame,
-            part,
-            slot,
-            what,
-        })?;
-    }
-    Ok(())
-}
-
-// The records of these slots, of which each part has q.
-fn recorded(heap: Global, channel: Channel, frame: u32, slots: &[Slot]) -> Result<Vec<Heard>, Fault>
-    requires whole { length slots.now ≡ channel.q * channel.q }
-    requires there { there_in (channel.q ^ channel.d) slots.now ≡ true }
-    ensures { MatchResult result (λ v. v.items ≡ records_of (settings channel) frame slots.now) (λ e. e ≡ FaultMemory) }
-{
-    let q = usize::from(channel.parts());
-    let mut records = Vec::new(heap);
-    for i in 0..slots.len() {
-        let part = (i / q) as u8;
-        let slot = (i % q) as u8;
-        let what = what_of(channel, frame, part, slots[i]);
-        push(&mut records, frame, part, slot, what)?;
-    }
-    Ok(records)
+    let what = what_of(channel, frame, part, slot)?;
+    Some(Heard {
+        frame,
+        part,
+        slot: y,
+        what,
+    })
 }
 
 // The records of what is heard in a frame with this number; `Fault::Memory` where there is no memory for them.
 pub fn records_of(heap: Global, frame: &Frame, number: u32) -> Result<Vec<Heard>, Fault>
     ensures { MatchResult result (λ v. v.items ≡ records_of (settings frame.now.channel) number frame.now.slots.items) (λ e. e ≡ FaultMemory) }
 {
-    recorded(heap, frame.channel(), number, frame.slots())
+    let channel = frame.channel();
+    let mut records = Vec::new(heap);
+    for part in 0..channel.parts() {
+        for y in 0..channel.parts() {
+            if let Some(slot) = frame.slot(part, y) {
+                records.extend(record_of(channel, number, part, y, slot))?;
+            }
+        }
+    }
+    Ok(records)
 }

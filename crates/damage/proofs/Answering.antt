@@ -1,5 +1,5 @@
 -- The answer to words: each of its parts from the relation of what is to be made of them (answer), and each way to it.
-use Rattle.std.proofs.Common.{◌≡◌, ℕ, ◌+◌, ◌<◌, ◌≤◌, Bool, true, false, cond, T, eqb, List, [], ◌∷◌, length, take, sym, subst, arith}
+use Rattle.std.proofs.Common.{◌≡◌, ℕ, ◌+◌, ◌<◌, ◌≤◌, Bool, true, false, cond, T, eqb, List, [], ◌∷◌, length, take, sym, arith}
 use mir.Facts.{yes_and}
 use Rattle.std.proofs.lemmas.List.{length-map, length-take-le}
 use Rattle.damage.specs.Made.{Answer}
@@ -36,9 +36,6 @@ module _ (q s : ℕ) (small : q < 252) (ws : List PartWord) where
 
   pub answer-few : (left : List ℕ) → length ws < s → Zeros left → Answer q s (words_in ws) (TooFew (length ws)) left
   answer-few left few zeros = answer (TooFew (length ws)) left (sym (length-map ws word_of), rw (length-map ws word_of) few) zeros
-
-  pub answer-unsound : (left : List ℕ) → s ≤ length ws → false ≡ sound_in q (words_in ws) → Zeros left → Answer q s (words_in ws) Doubtful left
-  answer-unsound left enough off zeros = answer Doubtful left (rw (length-map ws word_of) enough, λ sound m near. subst T (sym off) sound) zeros
 
   pub answer-read : (left : List ℕ) (o : ℕ) → s ≤ length ws → true ≡ sound_in q (words_in ws) → o ≡ off_of left (words_in ws) → Near s (spare (length ws) s) (words_in ws) left → Answer q s (words_in ws) (Message (length ws) o) left
   answer-read left o enough sound is near =

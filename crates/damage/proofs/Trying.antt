@@ -1,15 +1,15 @@
 -- Trying a polynomial: it is the only one through the words kept, so if it is not near enough, no message on them is (tried).
 -- And what is kept: the words left, one more at each turn (kept_more, kept_all), sound and on a message where all words left are (tried-left).
-use Rattle.std.proofs.Common.{◌≡◌, ℕ, ◌+◌, ◌-◌, ◌*◌, ◌/◌, ◌<◌, ◌≤◌, min, Bool, true, false, cond, not, ◌&&◌, T, eqb, leb, List, [], ◌∷◌, ◌++◌, length, get_or, take, set, Some, None, Option, map, zero-add, sym, refl, ap, ◌∙◌, subst, ⊎_elim, mul-le-mul_right, mod-lt, le-div_iff_mul-le, div-mul-le_self, arith}
+use Rattle.std.proofs.Common.{◌≡◌, ℕ, ◌+◌, ◌-◌, ◌*◌, ◌/◌, ◌<◌, ◌≤◌, min, Bool, true, false, cond, not, ◌&&◌, T, leb, List, [], ◌∷◌, ◌++◌, length, get_or, take, set, Some, None, Option, map, zero-add, sym, refl, ap, ◌∙◌, subst, ⊎_elim, mul-le-mul_right, mod-lt, le-div_iff_mul-le, div-mul-le_self, arith}
 use native.Mathlib.Nat.{mod-add-div}
 use Rattle.std.proofs.lemmas.List.{get_or-map, get_or-take, length-map, length-take, length-take-le, take_all, take_more, take_more_set}
 use Rattle.std.proofs.lemmas.List.FromFn.{get_or-enumerate_from, length-enumerate_from}
 use Rattle.std.proofs.lemmas.Iterator.{YieldsList}
 use Rattle.std.proofs.lemmas.Iterator.Consumers.{YieldsList-end, YieldsList-turn}
 use Rattle.std.specs.Iterator.{Yields}
-use Rattle.std.specs.List.{enumerate_from, filter, list_any}
+use Rattle.std.specs.List.{enumerate_from, filter}
 use Rattle.std.specs.Option.{is_some}
-use Rattle.std.proofs.lemmas.Bool.{and_from, and_parts, cases_eq, cases_lt, le-leb, leb-true, ne_eqb}
+use Rattle.std.proofs.lemmas.Bool.{and_from, and_parts, cases_lt, le-leb, leb-true}
 use Rattle.messages.proofs.Listening.{agrees-take, below_reduced}
 use Rattle.polynomials.proofs.Sound.{sound-take}
 use Rattle.readings.proofs.Blocks.{length-left, map-left, sound-left}
@@ -37,16 +37,7 @@ tried s e ws kept f r lf reduced on is = rw is (go (below limit f && leb (off_of
         let same : m ≡ f = only_near 251 s (few_units 251 (omega arith)) (words_in kept) le sound m f close.long lf (below-p m close.small) (below_reduced f reduced) (omega (arith, agrees_off m (words_in kept) on-m)) (omega (arith, agrees_off f (words_in kept) on)) in
         let it : Near s e (words_in ws) f = subst (Near s e (words_in ws)) same close in
         let z : true ≡ false = sym (and_from _ _ (true_from _ it.small) (le-leb _ _ it.near)) ∙ t in
-        let c : ◌≡◌ {A = ℕ} 0 1 = cc in
-        absurd (omega arith)
-
-eqb_turned : (x y : ℕ) → eqb x y ≡ eqb y x
-eqb_turned x y = ⊎_elim (λ (e : x ≡ y). rw e refl) (λ (ne : x ≡ y → ⊥). ne_eqb x y ne ∙ sym (ne_eqb y x (λ e. ne (sym e)))) (cases_eq x y)
-
-pub among_any : (x : ℕ) (out : List ℕ) → list_any (λ y. eqb y x) out ≡ is_among x out
-unfolding is_among
-among_any x [] = refl
-among_any x (y ∷ out) = rw (eqb_turned y x, among_any x out) refl
+        cc
 
 -- the words that are left, each with its place
 abbrev pub left_at : List PartWord → (b : ℕ) → List ℕ → List (ℕ × PartWord)
@@ -98,7 +89,7 @@ tried-weaker s e ws A B None f to t = to t
 tried-weaker s e ws A B (Some o) f to t = t
 
 pub tried-some : (s e : ℕ) (ws : List PartWord) (A B : Type 0) (r : Option ℕ) (f : List ℕ) → true ≡ is_some r → Tried s e ws A r f → Tried s e ws B r f
-tried-some s e ws A B None f is t = let z : ◌≡◌ {A = ℕ} 0 1 = cc in absurd (omega arith)
+tried-some s e ws A B None f is t = cc
 tried-some s e ws A B (Some o) f is t = t
 
 -- no message on the words kept is none on all words left
@@ -139,10 +130,6 @@ module _ (w s e : ℕ) (some : 0 < e) (enough : 2 * e + s ≤ w) where
       let taken = div-mul-le_self (w - s) e in
       let all = blocks-all in
       ⊎_elim (λ (lt : n < e). let more = mul-le-mul_right b lt in let pos = block-some in absurd (omega arith)) (λ (le : e ≤ n). le) (cases_lt n e)
-
--- a level one turn on
-pub more : (P : ℕ → Type 0) (low k : ℕ) → ((x : ℕ) → low ≤ x → x < k → P x) → P k → (x : ℕ) → low ≤ x → x < k + 1 → P x
-more P low k before here x a b = ⊎_elim (λ (e : x ≡ k). subst P (sym e) here) (λ (ne : x ≡ k → ⊥). before x a (omega arith)) (cases_eq x k)
 
 pub length_taken : (n : ℕ) (xs : List ℕ) → length (take (n - 0) xs) ≤ n
 length_taken n xs = rw (length-take (n - 0) xs) (omega arith)

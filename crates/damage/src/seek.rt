@@ -38,6 +38,7 @@ fn keep(words: &[PartWord], block: usize, out: &[usize], room: &mut [PartWord])
         .iter()
         .enumerate()
         .filter(|(i, _)| !is_out(*i / block, out));
+    // The room by place: of memory lent by a `zip` nothing is known after the loop.
     for (place, (_, word)) in left.take(room.len()).enumerate() {
         room[place] = *word;
     }

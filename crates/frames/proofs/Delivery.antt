@@ -1,12 +1,12 @@
 -- The promise of a frame: of at most k + 1 speakers each one's message is what is read.
 -- Idea: the words heard of it are sound and enough, and its own message fits them; so reading cannot answer otherwise, and one message only fits.
--- answered, delivered. Assumes nothing.
+-- delivered. Assumes nothing.
 use Rattle.std.proofs.Common.{◌≡◌, ℕ, T, List, length, sym, ap, ◌∙◌, subst, arith}
 use mathlib.Core.List.{Memᴰ}
-use Rattle.messages.specs.Made.{Cleared, Made, read_of}
+use Rattle.messages.specs.Made.{Made, read_of}
 use Rattle.messages.specs.declared.listen.Reading.{Reading}
 use Rattle.frames.specs.declared.slot.Slot.{Slot}
-use Rattle.frames.specs.Heard.{Answered, Delivered, words_from}
+use Rattle.frames.specs.Heard.{Delivered, words_from}
 use Rattle.frames.proofs.Own.{words_heard}
 use Rattle.speakall.specs.Code.{Read}
 use Rattle.speakall.specs.Frame.{Speaker, Word, got}
@@ -28,10 +28,6 @@ module _ (c : Channel) (good : Good c) (ss : List Speaker) (frame : Frame c ss) 
 
 module _ (c : Channel) (slots : List Slot) (f : Plan) (ws : List Word) (a : Reading) (before after : List ℕ) (words : ws ≡ words_from c slots f 0 c.q) (long : length after ≡ length before)
     (made : Made c.q (length before) ws (read_of a after)) where
-  -- the answer to the words that are in the slots
-  pub answered : Cleared a after → Answered c (words_from c slots f 0 c.q) a before after
-  answered cleared = record { long = long; made = subst (λ (l : List Word). Made c.q (length before) l (read_of a after)) words made; cleared = cleared }
-
   pub delivered : Good c → Delivered c slots f a after
   delivered good ss hears frame s here plan small size-after =
       let heard : ws ≡ got c ss s.plan = words ∙ words_heard c ss slots f (omega (arith, good.1, good.2)) hears 0 c.q (omega arith) ∙ ap (got c ss) (sym plan) in

@@ -1,6 +1,6 @@
 -- The speakers of a frame one after the other: the first that cannot speak, and what is heard of those that can.
 -- refusal_here, refusal_more, refusal_none, heard_more, refusal_never. Assumes nothing.
-use Rattle.std.proofs.Common.{◌≡◌, ℕ, zero, suc, ◌+◌, ◌<◌, ◌≤◌, List, [], ◌∷◌, length, get_or, drop, Some, None, vec_items, Option, sym, refl, ap, ◌∙◌, subst, ap₂, arith}
+use Rattle.std.proofs.Common.{◌≡◌, ℕ, zero, suc, ◌+◌, ◌<◌, ◌≤◌, List, [], ◌∷◌, length, get_or, drop, Some, None, vec_items, Option, sym, refl, ap, ◌∙◌, subst, ap₂}
 use Rattle.channels.specs.declared.fault.Fault.{Fault}
 use Rattle.std.proofs.lemmas.List.{at_drop_more, at_drop_all}
 use Rattle.frames.specs.declared.speaker.Speaker.{Speaker}
@@ -16,7 +16,7 @@ none_left (Some f) p e = e
 
 none_right : (o p : Option Fault) → or_else o p ≡ None → p ≡ None
 none_right None p e = e
-none_right (Some f) p e = let z : ◌≡◌ {A = ℕ} 0 1 = cc in absurd (omega arith)
+none_right (Some f) p e = cc
 
 module _ (c : Channel) (ss : List Speaker) (i : ℕ) (s : Speaker) (h : i < length ss) (is : s ≡ get_or ss i s) where
   refusal-step : refusal_in c (drop i ss) ≡ or_else (refusal c s.number (vec_items s.message)) (refusal_in c (drop (i + 1) ss))
@@ -59,5 +59,4 @@ module _ (c d : Channel) (ss rest : List Speaker) (s : Speaker) (m : List ℕ) (
       let left : refusal_in c (s ∷ rest) ≡ None = sym (ap (refusal_in c) is) ∙ ap (refusal_in c) last ∙ refused_nobody c all n r in
       let none : refusal c s.number (vec_items s.message) ≡ None = none_left _ _ left in
       let some : refusal c s.number (vec_items s.message) ≡ Some f = ap₂ (λ (x : Channel) (n : List ℕ). refusal x s.number n) (sym e) (sym em) ∙ t in
-      let z : ◌≡◌ {A = ℕ} 0 1 = cc in
-      omega arith
+      cc

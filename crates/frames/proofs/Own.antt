@@ -1,5 +1,5 @@
 -- What the code takes for a sender's word is what the statement says is heard of it: senders with the same plan are the same.
--- own_in, Gathered, gathered_none, gathered_more, gathered_all, words_heard. Assumes nothing.
+-- there_at, own_in, Gathered, gathered_none, gathered_more, gathered_all, words_heard. Assumes nothing.
 use Rattle.std.proofs.Common.{◌≡◌, ℕ, zero, suc, ◌+◌, ◌-◌, ◌*◌, ◌^◌, ◌<◌, ◌≤◌, Bool, true, false, cond, eqb, List, [], ◌∷◌, ◌++◌, get_or, Some, None, Option, sym, refl, ap, ◌∙◌, ap₂, ⊎_elim, arith}
 use Rattle.std.proofs.lemmas.Bool.{cases_eq, eq-eqb, ne_eqb, eqb-true, ltb-true, and_parts, cases_Bool}
 use Rattle.std.proofs.lemmas.List.{map-append, append_assoc, append-nil}
@@ -20,13 +20,13 @@ use Rattle.speakall.proofs.Reached.{digits_equal}
 same_equal : (f g : Plan) → same f g ≡ true → f ≡ g
 unfolding same
 same_equal [] [] e = refl
-same_equal [] (y ∷ ys) e = let z : ◌≡◌ {A = ℕ} 0 1 = cc in absurd (omega arith)
-same_equal (x ∷ xs) [] e = let z : ◌≡◌ {A = ℕ} 0 1 = cc in absurd (omega arith)
+same_equal [] (y ∷ ys) e = cc
+same_equal (x ∷ xs) [] e = cc
 same_equal (x ∷ xs) (y ∷ ys) e =
     let a = and_parts (eqb x y) (same xs ys) e in
     ap₂ (λ (z : ℕ) (zs : List ℕ). z ∷ zs) (eqb-true x y a.0) (same_equal xs ys a.1)
 
-there_at : (n : ℕ) (ss : List Slot) (i : ℕ) → there_in n ss ≡ true → is_there n (get_or ss i Silence) ≡ true
+pub there_at : (n : ℕ) (ss : List Slot) (i : ℕ) → there_in n ss ≡ true → is_there n (get_or ss i Silence) ≡ true
 unfolding there_in
 there_at n [] i t = refl
 there_at n (s ∷ ss) zero t = (and_parts (is_there n s) (there_in n ss) t).0

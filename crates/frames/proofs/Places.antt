@@ -1,6 +1,6 @@
 -- Slots by part and slot: a place is part × q + slot, so that different ones have different places.
--- place_lt, said_none, said_more. Assumes nothing.
-use Rattle.std.proofs.Common.{◌≡◌, ℕ, ◌+◌, ◌*◌, ◌/◌, ◌%◌, ◌<◌, ◌≢◌, List, length, set, sym, refl, ap, ◌∙◌, subst, ⊎_elim, arith}
+-- place_lt, said_more. Assumes nothing.
+use Rattle.std.proofs.Common.{◌≡◌, ℕ, ◌+◌, ◌*◌, ◌/◌, ◌%◌, ◌<◌, ◌≢◌, List, length, set, sym, ap, ◌∙◌, subst, ⊎_elim, arith}
 use lib.Arith.{digits_lt, digits_div, digits_mod}
 use Rattle.std.proofs.lemmas.List.{get_or-set_same, get_or-set_other, length-set}
 use Rattle.std.proofs.lemmas.Bool.{cases_eq}
@@ -20,10 +20,6 @@ place_apart q x y i s h k n e =
 
 elsewhere : (q : ℕ) (slots : List Slot) (x y i s : ℕ) (v : Slot) → y < q → s < q → (x ≡ i → y ≡ s → ⊥) → slot_in q (set slots (i * q + s) v) x y ≡ slot_in q slots x y
 elsewhere q slots x y i s v h k n = get_or-set_other slots (i * q + s) (x * q + y) v Silence (place_apart q x y i s h k n)
-
-pub said_none : (q : ℕ) (f : Plan) (sender : ℕ) (m : List ℕ) (slots : List Slot) → Said q f sender m 0 slots slots
-said_none q f sender m slots =
-    record { long = refl; own = λ x h. absurd (omega arith); others = λ x y h k n. refl; later = λ x y h k. refl }
 
 -- one part more
 pub said_more : (q : ℕ) (f : Plan) (sender : ℕ) (m : List ℕ) (i y w : ℕ) (before now after : List Slot) → 0 < q → i < q → length before ≡ q * q →

@@ -45,7 +45,7 @@ impl Frame {
         Some(self.at(part, y))
     }
 
-    // The place of slot y of a part among all slots.
+    // The place of slot y of a part among all slots. Who asks shows that both are there: a struct of the two would have to carry the frame's q as well.
     fn place(&self, part: u8, y: u8) -> usize
         requires part { part < self.now.channel.q }
         requires slot { y < self.now.channel.q }

@@ -21,7 +21,7 @@ filled n left e k = ap (λ (l : List ℕ). get_or l k 0) e ∙ zeros n k
     zeros (suc n) zero = refl
     zeros (suc n) (suc k) = zeros n k
 
-pub not-false : (b : Bool) → false ≡ b → T b → ⊥
+not-false : (b : Bool) → false ≡ b → T b → ⊥
 not-false b e t = subst T (sym e) t
 
 below_more : (n : ℕ) (m : List ℕ) → n ≤ p → T (below n m) → T (below p m)

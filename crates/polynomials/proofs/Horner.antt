@@ -1,7 +1,6 @@
 -- The value of a polynomial, coefficient by coefficient from the highest: with none, and one more. The point may be taken modulo p.
-use Rattle.std.proofs.Common.{◌≡◌, ℕ, ◌+◌, ◌*◌, ◌%◌, ◌<◌, List, [], ◌∷◌, length, get_or, set, refl, ap, ◌∙◌, arith}
+use Rattle.std.proofs.Common.{◌≡◌, ℕ, ◌+◌, ◌*◌, ◌%◌, List, [], ◌∷◌, refl, ap, ◌∙◌, arith}
 use Rattle.speakall.specs.Frame.{p, word_at}
-use Rattle.std.proofs.lemmas.List.Edits.{fill_by_more}
 use native.Mathlib.Nat.{mod-add-div}
 
 -- one coefficient more
@@ -21,7 +20,3 @@ word_at_same m x y v is e = e ∙ ap (word_at m) is ∙ word_at_mod m y
 pub word_at_none : (x : ℕ) → 0 ≡ word_at [] x
 unfolding word_at
 word_at_none x = refl
-
--- one word more is written
-pub words_more : (m ws : List ℕ) (i w : ℕ) → i < length ws → ((x : ℕ) → x < i → get_or ws x 0 ≡ word_at m x) → w ≡ word_at m i → (x : ℕ) → x < i + 1 → get_or (set ws i w) x 0 ≡ word_at m x
-words_more m ws i w h before e = rw e (fill_by_more (word_at m) ws i 0 h before)

@@ -1,6 +1,6 @@
 -- The polynomial y₀ + (X - x₀) · g through points, from the slopes that g goes through: what each of its steps gives, modulo p.
 -- Congruences are written without minus: f is y₀ + (X - x₀) · g where f + x₀ · g ≡ y₀ + X · g.
-use Rattle.std.proofs.Common.{◌≡◌, ℕ, zero, suc, ◌+◌, ◌-◌, ◌*◌, ◌%◌, ◌<◌, ◌≤◌, T, List, [], ◌∷◌, length, get_or, drop, set, sym, refl, ap, ◌∙◌, ⊎_elim, append-nil, mul-zero, arith, lit<}
+use Rattle.std.proofs.Common.{◌≡◌, ℕ, zero, suc, ◌+◌, ◌-◌, ◌*◌, ◌%◌, ◌<◌, ◌≤◌, T, List, [], ◌∷◌, length, get_or, drop, sym, refl, ap, ◌∙◌, ⊎_elim, append-nil, mul-zero, arith, lit<}
 use Rattle.polynomials.proofs.Sound.{value_at_lem, value_at}
 use Rattle.polynomials.specs.Heard.{Product, Reduced, Slope, part_at, words_in}
 use Rattle.polynomials.specs.declared.words.PartWord.{PartWord}
@@ -8,8 +8,8 @@ use Rattle.speakall.proofs.Modulo.{add_cong, mul_cong, mul_mod_mod}
 use Rattle.speakall.proofs.Polynomial.{slot_at_lt, word_at_is}
 use Rattle.speakall.specs.Code.{sound_in}
 use Rattle.speakall.specs.Frame.{agrees, p, word_at}
-use Rattle.std.proofs.lemmas.List.{drop_all, get_or-drop, get_or_past, get_or-set_same, get_or-set_other}
-use Rattle.std.proofs.lemmas.Bool.{cases_lt, cases_eq}
+use Rattle.std.proofs.lemmas.List.{drop_all, get_or-drop, get_or_past}
+use Rattle.std.proofs.lemmas.Bool.{cases_lt}
 use borrow.Rule.Slice.PartMut.{put_mid}
 use lib.Dec.{eqb_refl}
 use mir.Facts.{yes_and}
@@ -24,34 +24,9 @@ slope_is x y x₀ y₀ v h e =
     let k = mul_mod_mod p x₀ (d * v) in
     omega arith
 
--- a loop that writes place by place: what R says of each place passed, and that the others are as they were
-pub placed_more : (R : ℕ → ℕ → Type 0) (xs ys : List ℕ) (i n v : ℕ) → i < length xs → n ≡ i + 1 → ((k : ℕ) → k < i → R k (get_or xs k 0)) → ((k : ℕ) → i ≤ k → get_or xs k 0 ≡ get_or ys k 0) → R i v → ((k : ℕ) → k < n → R k (get_or (set xs i v) k 0)) × ((k : ℕ) → n ≤ k → get_or (set xs i v) k 0 ≡ get_or ys k 0)
-placed_more R xs ys i n v h e done same r = (λ k lt. ⊎_elim (at k) (before k lt) (cases_eq k i), after)
-  where
-    at : (k : ℕ) → k ≡ i → R k (get_or (set xs i v) k 0)
-    at k f = rw (f, get_or-set_same xs i v 0 h) r
-
-    before : (k : ℕ) → k < n → (k ≡ i → ⊥) → R k (get_or (set xs i v) k 0)
-    before k lt ne = rw (get_or-set_other xs i k v 0 ne) (done k (omega arith))
-
-    after : (k : ℕ) → n ≤ k → get_or (set xs i v) k 0 ≡ get_or ys k 0
-    after k le = let ne : k ≡ i → ⊥ = λ f. omega arith in rw (get_or-set_other xs i k v 0 ne) (same k (omega arith))
-
-pub reduced_set : (xs : List ℕ) (i v : ℕ) → Reduced xs → v < p → Reduced (set xs i v)
-reduced_set [] i v r h k = r k
-reduced_set (x ∷ xs) zero v r h zero = h
-reduced_set (x ∷ xs) zero v r h (suc k) = r (suc k)
-reduced_set (x ∷ xs) (suc i) v r h zero = r zero
-reduced_set (x ∷ xs) (suc i) v r h (suc k) = reduced_set xs i v (λ j. r (suc j)) h k
-
 -- the coefficient of y₀ + (X - x₀) · g at place k, with n for minus x₀
 abbrev pub coefficient : ℕ → List ℕ → ℕ → ℕ
 coefficient n ys k = (get_or ys k 0 + n * get_or ys (suc k) 0) % p
-
-pub coefficient_here : (n i : ℕ) (xs ys : List ℕ) → 1 ≤ i → ((k : ℕ) → i - 1 ≤ k → get_or xs k 0 ≡ get_or ys k 0) → (get_or xs (i - 1) 0 + n * get_or xs i 0) % p ≡ coefficient n ys (i - 1)
-coefficient_here n i xs ys h same =
-    let e : suc (i - 1) ≡ i = omega arith in
-    rw (e, same (i - 1) (omega arith), same i (omega arith)) refl
 
 -- where there is no place after k, the coefficient is the value itself
 pub coefficients_all : (n i : ℕ) (xs ys : List ℕ) → Reduced ys → length ys ≤ i → ((k : ℕ) → k < i - 1 → get_or xs k 0 ≡ coefficient n ys k) → ((k : ℕ) → i - 1 ≤ k → get_or xs k 0 ≡ get_or ys k 0) → (k : ℕ) → get_or xs k 0 ≡ coefficient n ys k

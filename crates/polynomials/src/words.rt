@@ -28,6 +28,7 @@ fn value(message: &[u32], x: u64) -> u64
 pub fn word_at(message: &[u32], part: usize) -> u32
     ensures { result ≡ word_at message.now part }
 {
+    // By `as`: between usize and u64 the library has no conversion that always succeeds.
     value(message, part as u64 % P) as u32
 }
 

@@ -31,6 +31,7 @@ impl Frame {
     pub fn silent(heap: Global, channel: Channel) -> Result<Frame, Fault>
         ensures { MatchResult result (λ f. (f.channel ≡ channel) × Hears (settings channel) [] f.slots.items × (f.slots.items ≡ replicate (channel.q * channel.q) SlotSilence)) (λ e. e ≡ FaultMemory) }
     {
+        // By `as`: from u32 to usize the library has no conversion that always succeeds.
         let slots = vec![in heap; Slot::Silence; channel.slots() as usize]?;
         Ok(Frame { channel, slots })
     }

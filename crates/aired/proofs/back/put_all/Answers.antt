@@ -3,11 +3,11 @@ use Rattle.channels.specs.Settings.{settings}
 use Rattle.aired.proofs.Taking.{placed_more, outside_more, outside_here, placed_all, outside_all}
 use Rattle.aired.proofs.back.put_all.Goals as goal
 
-pub returns-in_err-put_one : goal.returns-in_err-put_one
-returns-in_err-put_one c =
+pub returns-in_err-put_one-clause-cases : goal.returns-in_err-put_one-clause-cases
+returns-in_err-put_one-clause-cases c =
     let same = ap settings c.loop-heard.invariant.0 in
     let out = sym c.loop-heard.invariant.2 ∙ outside_here _ _ same _ _ _ _ _ c.loop-heard-test.true refl _ c.in_err-put_one.ensures.cases in
-    record { same = c.put_one.ensures.same ∙ c.loop-heard.invariant.0; cases = search (rules, out) }
+    search (rules, out)
 
 pub loop-heard-preserved : goal.loop-heard-preserved
 loop-heard-preserved c =
@@ -18,10 +18,7 @@ loop-heard-preserved c =
       outside_more _ _ same _ _ _ _ _ c.loop-heard-test.true refl here.0 ∙ c.loop-heard.invariant.2,
     )
 
-pub returns : goal.returns
-returns c =
+pub returns-clause-cases : goal.returns-clause-cases
+returns-clause-cases c =
     let end = c.loop-heard-test.false in
-    record {
-      same = c.loop-heard.invariant.0;
-      cases = (sym c.loop-heard.invariant.2 ∙ outside_all _ _ _ _ end, sym (placed_all _ _ _ _ _ end) ∙ c.loop-heard.invariant.1);
-    }
+    (sym c.loop-heard.invariant.2 ∙ outside_all _ _ _ _ end, sym (placed_all _ _ _ _ _ end) ∙ c.loop-heard.invariant.1)

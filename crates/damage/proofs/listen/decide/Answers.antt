@@ -1,6 +1,6 @@
 -- Each way to an answer.
 use Rattle.std.proofs.Common.{arith}
-use Rattle.damage.proofs.Answering.{answer-few, answer-none, answer-read, answer-unsound}
+use Rattle.damage.proofs.Answering.{answer-few, answer-none, answer-read}
 use Rattle.damage.proofs.listen.decide.Goals as goal
 use Rattle.messages.proofs.Listening.{filled}
 use Rattle.polynomials.proofs.Sound.{sound_wider}
@@ -8,9 +8,6 @@ use Rattle.speakall.proofs.Truth.{from_true}
 
 pub returns-then-words-message : goal.returns-then-words-message
 returns-then-words-message c = answer-few _ _ c.requires c.args.words.now _ c.if-words-message.true (filled _ _ (c.fill.ensures.after (λ y e. e)))
-
-pub returns-then-not-is_sound : goal.returns-then-not-is_sound
-returns-then-not-is_sound c = answer-unsound _ _ c.requires c.args.words.now _ (omega arith) c.if-not-is_sound.ensures (filled _ _ (c.fill-then-not-is_sound.ensures.after (λ y e. e)))
 
 pub new-requires : goal.new-requires
 new-requires c = sound_wider _ 251 c.args.words.now (omega (arith, c.requires)) (from_true _ c.if-not-is_sound.ensures)

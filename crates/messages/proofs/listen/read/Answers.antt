@@ -1,6 +1,6 @@
 -- Each way to a reading.
 use Rattle.std.proofs.Common.{◌≤◌, sym, refl, arith, rules}
-use Rattle.messages.proofs.Listening.{filled, found, none, not-false}
+use Rattle.messages.proofs.Listening.{found, none}
 use Rattle.messages.proofs.listen.read.Goals as goal
 use Rattle.messages.proofs.listen.read.Goals.{else-interpolate-via-then-interpolate+else-fits, else-interpolate-via-else-interpolate}
 use Rattle.polynomials.proofs.Sound.{sound-take}
@@ -8,50 +8,28 @@ use Rattle.polynomials.specs.Heard.{word_of}
 use Rattle.speakall.proofs.Truth.{from_true}
 use Rattle.std.proofs.lemmas.List.{length-map}
 
-pub returns-then-words-size : goal.returns-then-words-size
-returns-then-words-size c =
-    record {
-      made = (sym (length-map c.args.words.now word_of), omega (arith, length-map c.args.words.now word_of, c.fill.auto.self));
-      cleared = filled _ _ (c.fill.ensures.after (λ y e. e));
-    }
-
-pub returns-then-not-is_sound : goal.returns-then-not-is_sound
-returns-then-not-is_sound c =
-    record {
-      made = (omega (arith, length-map c.args.words.now word_of, c.fill.auto.self), λ sound m fits. not-false _ (rw c.parts.ensures at c.if-not-is_sound.ensures) sound);
-      cleared = filled _ _ (c.fill.ensures.after (λ y e. e));
-    }
-
-pub returns-then-fits : goal.returns-then-fits
-returns-then-fits c =
+pub returns-then-fits-clause-made : goal.returns-then-fits-clause-made
+returns-then-fits-clause-made c =
     let first = rw c.fill.auto.self at c.split_at.ensures.front in
     let others = rw c.fill.auto.self at c.split_at.ensures.back in
-    let fitted = c.if-interpolate.ensures in
-    record {
-      made = (
-        sym (length-map c.args.words.now word_of),
-        refl,
-        found _ _ c.args.words.now _ _ _ c.args.channel.narrow (search rules) (search rules) first others fitted.3 (rw c.parts.ensures at c.if-not-is_sound.ensures) c.if-fits.ensures,
-      );
-      cleared = tt;
-    }
+    let fitted = c.if-interpolate.ensures in (
+      sym (length-map c.args.words.now word_of),
+      refl,
+      found _ _ c.args.words.now _ _ _ c.args.channel.narrow (search rules) (search rules) first others fitted.3 (rw c.parts.ensures at c.if-not-is_sound.ensures) c.if-fits.ensures,
+    )
 
-pub returns : goal.returns
-returns c =
+pub returns-clause-made : goal.returns-clause-made
+returns-clause-made c =
     let first = rw c.fill.auto.self at c.split_at.ensures.front in
     let others = rw c.fill.auto.self at c.split_at.ensures.back in
-    let few : c.parts.result ≤ 251 = omega (arith, c.parts.ensures, c.args.channel.narrow) in
-    record {
-      made = (
-        omega (arith, length-map c.args.words.now word_of, c.fill.auto.self),
-        elim c.else-interpolate.branch [
-          | else-interpolate-via-then-interpolate+else-fits w ↦
-              let fitted = w.if-interpolate.ensures in
-              none _ _ c.args.words.now _ _ _ c.args.channel.narrow (search rules) (search rules) first others fitted.3 fitted.2 w.if-fits.ensures
-          | else-interpolate-via-else-interpolate w ↦
-              let unfitted = w.if-interpolate.ensures in
-              absurd (unfitted.1 c.split_at.ensures.front_len (rw c.split_at.ensures.front (sound-take _ 251 _ c.args.words.now few (from_true _ c.if-not-is_sound.ensures))))
-        ],
-      );
-      cleared = filled _ _ (c.fill-2.ensures.after (λ y e. e));
-    }
+    let few : c.parts.result ≤ 251 = omega (arith, c.parts.ensures, c.args.channel.narrow) in (
+      omega (arith, length-map c.args.words.now word_of, c.fill.auto.self),
+      elim c.else-interpolate.branch [
+        | else-interpolate-via-then-interpolate+else-fits w ↦
+            let fitted = w.if-interpolate.ensures in
+            none _ _ c.args.words.now _ _ _ c.args.channel.narrow (search rules) (search rules) first others fitted.3 fitted.2 w.if-fits.ensures
+        | else-interpolate-via-else-interpolate w ↦
+            let unfitted = w.if-interpolate.ensures in
+            absurd (unfitted.1 c.split_at.ensures.front_len (rw c.split_at.ensures.front (sound-take _ 251 _ c.args.words.now few (from_true _ c.if-not-is_sound.ensures))))
+      ],
+    )

@@ -5,15 +5,14 @@ use Rattle.polynomials.proofs.Sound.{sound_apart, sound-first, sound-left}
 use Rattle.polynomials.proofs.through.+through.Goals as goal
 use Rattle.std.proofs.lemmas.List.{take_rest}
 
-pub slopes-requires : goal.slopes-requires
-slopes-requires t c =
-    let some : 0 < length c.args.words.now = search rules in
-    record {
-      long = search rules;
-      first = (sound-first 251 _ some c.requires.sound, c.requires.reduced 0);
-      apart = sound_apart 251 _ _ (take_rest c.args.words.now 1) some c.requires.sound;
-      reduced = reduced_left _ _ (take_rest c.args.values.now 1) c.requires.reduced;
-    }
+pub slopes-requires-clause-first : goal.slopes-requires-clause-first
+slopes-requires-clause-first t c = (sound-first 251 _ (search rules) c.requires.sound, c.requires.reduced 0)
+
+pub slopes-requires-clause-apart : goal.slopes-requires-clause-apart
+slopes-requires-clause-apart t c = sound_apart 251 _ _ (take_rest c.args.words.now 1) (search rules) c.requires.sound
+
+pub slopes-requires-clause-reduced : goal.slopes-requires-clause-reduced
+slopes-requires-clause-reduced t c = reduced_left _ _ (take_rest c.args.values.now 1) c.requires.reduced
 
 pub through-requires : goal.through-requires
 through-requires t c = (search rules, (search rules, (sound-left 251 _ _ (take_rest c.args.words.now 1) c.requires.sound, c.slopes.ensures.reduced)))
@@ -21,10 +20,7 @@ through-requires t c = (search rules, (search rules, (sound-left 251 _ _ (take_r
 pub times-requires : goal.times-requires
 times-requires t c = let some : 0 < length c.args.values.now = search rules in reduced_first _ _ some c.requires.reduced c.through.ensures.reduced
 
-pub returns : goal.returns
-returns t c =
+pub returns-clause-through : goal.returns-clause-through
+returns-clause-through t c =
     let some : 0 < length c.args.values.now = search rules in
-    record {
-      reduced = c.times.ensures.reduced;
-      through = through_more _ _ _ _ _ _ _ (take_rest c.args.words.now 1) (take_rest c.args.values.now 1) c.requires.long some c.requires.reduced c.slopes.ensures.slopes c.through.ensures.through c.times.ensures.product;
-    }
+    through_more _ _ _ _ _ _ _ (take_rest c.args.words.now 1) (take_rest c.args.values.now 1) c.requires.long some c.requires.reduced c.slopes.ensures.slopes c.through.ensures.through c.times.ensures.product

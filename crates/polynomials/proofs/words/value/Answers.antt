@@ -13,7 +13,7 @@ loop-number-preserved c =
     let more : passed c.args.message.now (xs ++ (c.in-Some.number ∷ [])) ≡ c.in-Some.number.now ∷ passed c.args.message.now xs = search (rules, turn) in
     (mod-lt _ (lit< tt), rw c.from.ensures (word_at_more _ _ _ _ _ more c.loop-number.invariant.1))
 
-pub returns : goal.returns
-returns c =
+pub returns-clause-is : goal.returns-clause-is
+returns-clause-is c =
     let all : passed c.args.message.now c.loop-number.yielded ≡ c.args.message.now = search (rules, end) in
-    record { below = c.loop-number.invariant.0; is = λ y e. word_at_same _ _ y _ e (rw all at c.loop-number.invariant.1) }
+    λ y e. word_at_same _ _ y _ e (rw all at c.loop-number.invariant.1)

@@ -1,12 +1,9 @@
-use Rattle.std.proofs.Common.{◌≡◌, vec_items, refl, sym, ap, ◌∙◌, arith}
+use Rattle.std.proofs.Common.{vec_items, sym, ap, ◌∙◌, arith}
 use Rattle.channels.specs.Plans.{plan_in}
-use Rattle.frames.proofs.Places.{said_none, said_more}
+use Rattle.frames.proofs.Places.{said_more}
 use Rattle.speakall.specs.Frame.{word_at}
 use Rattle.speakall.specs.Plan.{slot_at}
 use Rattle.frames.proofs.frame.Frame.say.Goals as goal
-
-pub loop-part-init : goal.loop-part-init
-loop-part-init c = (refl, said_none _ _ _ _ _)
 
 pub loop-part-preserved : goal.loop-part-preserved
 loop-part-preserved c =
@@ -18,8 +15,3 @@ loop-part-preserved c =
           (omega arith) (omega arith) (sym frame.slots.ok.0 ∙ frame.whole) c.loop-part.invariant.1 (c.in-Some.ensures.2 ∙ ap (λ q. slot_at q f i) c.requires.side)
           (c.word_at.ensures ∙ ap (word_at c.args.message.now) c.from.ensures) (rw c.loop-part.invariant.0 at c.say_in.ensures.joined),
     )
-
-pub returns : goal.returns
-returns c =
-    let all : c.loop-part.part ≡ c.args.self.now.channel.q = omega (arith, c.parts-part-end.ensures) in
-    record { same = c.loop-part.invariant.0; said = rw all at c.loop-part.invariant.1 }

@@ -1,6 +1,6 @@
 -- A whole input: its channel, and then its records.
 -- channel_long, input_is, heard_are, heard_input_is, message_there, message_taken. Assumes nothing.
-use Rattle.std.proofs.Common.{◌≡◌, ℕ, ◌+◌, ◌-◌, ◌*◌, ◌≤◌, List, [], ◌++◌, length, vec_items, take, drop, Some, sym, refl, ap, ◌∙◌, arith, Ok}
+use Rattle.std.proofs.Common.{◌≡◌, ℕ, ◌+◌, ◌-◌, ◌*◌, ◌≤◌, List, length, vec_items, take, drop, Some, sym, refl, ap, ◌∙◌, arith, Ok}
 use Rattle.std.proofs.lemmas.List.{map-id, take_rest}
 use Rattle.channels.specs.declared.channel.Channel.{Channel}
 use Rattle.channels.specs.Settings.{settings}
@@ -39,9 +39,9 @@ message_there s left n m e k z =
     (omega (arith, w.1), l)
 
 -- and these are taken out of its bytes
-pub message_taken : (s : ℕ) (bs : List ℕ) (n m : ℕ) (before items : List ℕ) → Ok (numbers_of (take (4 * n) (drop 2 bs))) ≡ message_in s bs → length (numbers_of (take (4 * n) (drop 2 bs))) ≡ n → m ≡ n → before ≡ [] →
-    items ≡ before ++ numbers_of (take (2 + 4 * m - 2) (drop 2 bs)) → (message_in s bs ≡ Ok items) × (2 + 4 * m ≡ message_size items) × (◌≡◌ {A = ℕ} 0 0)
-message_taken s bs n m before items o l e z k =
+pub message_taken : (s : ℕ) (bs : List ℕ) (n m : ℕ) (items : List ℕ) → Ok (numbers_of (take (4 * n) (drop 2 bs))) ≡ message_in s bs → length (numbers_of (take (4 * n) (drop 2 bs))) ≡ n → m ≡ n →
+    items ≡ numbers_of (take (2 + 4 * m - 2) (drop 2 bs)) → (message_in s bs ≡ Ok items) × (2 + 4 * m ≡ message_size items) × (◌≡◌ {A = ℕ} 0 0)
+message_taken s bs n m items o l e k =
     let four : 2 + 4 * m - 2 ≡ 4 * n = omega arith in
-    let same : items ≡ numbers_of (take (4 * n) (drop 2 bs)) = rw (k, four, z) refl in
+    let same : items ≡ numbers_of (take (4 * n) (drop 2 bs)) = rw (k, four) refl in
     (sym o ∙ ap Ok (sym same), omega (arith, ap length same), refl)

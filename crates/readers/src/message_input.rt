@@ -7,7 +7,7 @@ ghost use Rattle.reading.specs.Formats.{message_format};
 ghost use Rattle.reading.specs.Reading.{FaultStays, LastLost, read_from};
 ghost use Rattle.records.specs.Numbers.{numbers_of};
 ghost use Rattle.speakall.specs.Plan.{size};
-ghost use Rattle.std.specs.Prelude.{◌≡◌, ℕ, List, ◌++◌, MatchResult, vec_items};
+ghost use Rattle.std.specs.Prelude.{◌≡◌, ℕ, List, MatchResult, vec_items};
 
 use crate::input_read::{InputRead, read_input};
 use crate::record::{First, Record};
@@ -22,16 +22,13 @@ pub type MessageRead = RecordsRead<Vec<u32>>;
 // The channel of an input, if it has one, and the messages; each has as many numbers as the channel's messages.
 pub type MessageInput = InputRead<Vec<u32>>;
 
-// Puts the numbers in these bytes after those that are there, or tells that memory fails.
-fn add_numbers(numbers: &mut Vec<u32>, bytes: &[u8]) -> Result<(), Fault>
-    ensures { MatchResult result (λ _. numbers.new.items ≡ numbers.old.items ++ numbers_of bytes.now) (λ e. e ≡ FaultMemory) }
+// The numbers in these bytes; `Fault::Memory` where no memory is left for them.
+fn numbers_in(heap: Global, bytes: &[u8]) -> Result<Vec<u32>, Fault>
+    ensures { MatchResult result (λ v. v.items ≡ numbers_of bytes.now) (λ e. e ≡ FaultMemory) }
 {
-    let mut left = bytes;
-    while let [a, b, c, d, rest @ ..] = left {
-        numbers.push(u32::from_be_bytes([*a, *b, *c, *d]))?;
-        left = rest;
-    }
-    Ok(())
+    let (fours, _) = bytes.as_chunks();
+    let numbers = fours.iter().map(|four| u32::from_be_bytes(*four));
+    Ok(numbers.collect(heap)?)
 }
 
 impl Record for Vec<u32> {
@@ -54,8 +51,7 @@ impl Record for Vec<u32> {
             Err(unread) => return Ok(Err(unread)),
         };
         let size = 2 + 4 * usize::from(count);
-        let mut record = Vec::new(heap);
-        add_numbers(&mut record, &bytes[2..size])?;
+        let record = numbers_in(heap, &bytes[2..size])?;
         Ok(Ok(First {
             record,
             size,

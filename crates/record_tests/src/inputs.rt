@@ -6,10 +6,7 @@ use std::alloc::Global;
 use std::test::Fail;
 
 fn stop(stopped: Option<Stopped>) -> (u8, u64) {
-    match stopped {
-        Some(s) => (s.fault.number().unwrap_or(0), s.byte),
-        None => (0, 0),
-    }
+    stopped.map_or((0, 0), |s| (s.fault.number().unwrap_or(0), s.byte))
 }
 
 // The channel 5 2 2 and then these bytes.

@@ -1,8 +1,10 @@
 -- What stands first in some bytes, by cases: nothing, another kind, too few bytes, and the rest.
--- first_none, first-other, first_cut, first_then; kind_is, kind_refused; channel_made, channel-not; heard-word_cut, heard_unknown, heard-word, heard_noise, heard_made;
+-- first_none, first-other, first_cut, first_then; kind_is, kind_refused, channel_refused, kind_cut; channel_made, channel-not; heard-word_cut, heard_unknown, heard-word, heard_noise, heard_made;
 -- counted_cut, counted; rest_short, rest_long. Assumes nothing.
 use Rattle.std.proofs.Common.{◌≡◌, ℕ, ◌+◌, ◌-◌, ◌*◌, ◌<◌, ◌≤◌, Bool, true, false, cond, eqb, ltb, List, [], ◌∷◌, length, get_or, take, drop, sym, refl, ap, ◌∙◌, arith, Ok, Err, Result}
 use Rattle.std.proofs.lemmas.List.{take_rest, length-take, length-drop}
+use Rattle.std.proofs.lemmas.Result.{err_from_is_err_and}
+use Rattle.std.specs.Result.{IsErrAnd}
 use Rattle.std.proofs.lemmas.Bool.{eqb-true, ltb-false}
 use Rattle.std.proofs.lemmas.Bool.Decides.{nat_tests}
 use Rattle.channels.specs.declared.channel.Channel.{Channel}
@@ -17,7 +19,7 @@ use Rattle.records.specs.declared.heard.What.{What}
 use Rattle.records.specs.declared.heard.What.TheVariants.{Word, Noise}
 use Rattle.records.specs.declared.heard.Heard.{Heard}
 use Rattle.records.specs.Kinds.{after_kind, of_kind}
-use Rattle.records.specs.Channels.{channel_in}
+use Rattle.records.specs.Channels.{channel_in, settled}
 use Rattle.records.specs.Hearing.{whole_in, headed}
 use Rattle.records.specs.Messages.{count_in}
 use Rattle.records.specs.Numbers.{four_at}
@@ -63,10 +65,17 @@ pub kind_is : (kind : ℕ) (bs rest : List ℕ) → after_kind kind bs ≡ Ok re
 kind_is kind [] rest e = let z : ◌≡◌ {A = ℕ} 0 1 = cc in absurd (omega arith)
 kind_is kind (b ∷ bs) rest e = grind (arith, nat_tests)
 
-pub kind_refused : {A : Type 0} (kind least : ℕ) (bs : List ℕ) (found : Result A Unread) (u : Unread) → after_kind kind bs ≡ Err u → Err u ≡ of_kind kind least bs found
+refused : {A : Type 0} (kind least : ℕ) (bs : List ℕ) (found : Result A Unread) (u : Unread) → after_kind kind bs ≡ Err u → Err u ≡ of_kind kind least bs found
 unfolding of_kind
-kind_refused kind least [] found u e = let z : u ≡ Short = cc in ap Err z
-kind_refused kind least (b ∷ bs) found u e = grind (arith, nat_tests)
+refused kind least [] found u e = let z : u ≡ Short = cc in ap Err z
+refused kind least (b ∷ bs) found u e = grind (arith, nat_tests)
+
+-- what a parser hands on that is refused by the kind
+pub kind_refused : {A : Type 0} (kind least : ℕ) (bs : List ℕ) (found r : Result A Unread) (u : Unread) → IsErrAnd r (λ v. v ≡ u) → after_kind kind bs ≡ Err u → r ≡ of_kind kind least bs found
+kind_refused kind least bs found r u i e = let p = err_from_is_err_and r i in rw (p.1, p.2) (refused kind least bs found u e)
+
+pub channel_refused : (bs : List ℕ) (r : Result Channel Unread) (u : Unread) → IsErrAnd r (λ v. v ≡ u) → after_kind 1 bs ≡ Err u → settled r ≡ channel_in bs
+channel_refused bs r u i e = let p = err_from_is_err_and r i in rw (p.1, p.2) (refused 1 4 bs _ u e)
 
 -- too few bytes after it
 pub kind_cut : {A : Type 0} (kind least : ℕ) (bs rest : List ℕ) (found : Result A Unread) → after_kind kind bs ≡ Ok rest → length rest + 1 < least → Err Short ≡ of_kind kind least bs found

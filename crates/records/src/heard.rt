@@ -31,6 +31,18 @@ pub enum HeardBytes {
     Noise([u8; 8]),
 }
 
+impl HeardBytes {
+    // The bytes, in their order.
+    pub fn as_slice(&self) -> &[u8]
+        ensures { result.now ≡ bytes_in self.now }
+    {
+        match self {
+            HeardBytes::Word(bytes) => bytes,
+            HeardBytes::Noise(bytes) => bytes,
+        }
+    }
+}
+
 // What a record says was heard, by its byte.
 #[derive(Clone, Copy, PartialEq, Eq, Debug)]
 enum Said {

@@ -9,12 +9,6 @@ const LIMIT: u32 = 1073741824;
 pub fn are_small(bytes: &[u8]) -> bool
     ensures { result ≡ are_small (numbers_of bytes.now) }
 {
-    let mut left = bytes;
-    while let [a, b, c, d, rest @ ..] = left {
-        if u32::from_be_bytes([*a, *b, *c, *d]) >= LIMIT {
-            return false;
-        }
-        left = rest;
-    }
-    true
+    let (fours, _) = bytes.as_chunks();
+    fours.iter().all(|four| u32::from_be_bytes(*four) < LIMIT)
 }

@@ -61,16 +61,11 @@ impl HeardReader {
                 fault: Fault::Kind,
                 byte: 0,
             }),
-            Phase::Records(..) => {
-                if self.held.count() == 0 {
-                    None
-                } else {
-                    Some(Stopped {
-                        fault: Fault::Kind,
-                        byte: self.byte,
-                    })
-                }
-            }
+            Phase::Records(..) if self.held.count() == 0 => None,
+            Phase::Records(..) => Some(Stopped {
+                fault: Fault::Kind,
+                byte: self.byte,
+            }),
             Phase::Over(_, stopped) => Some(stopped),
         }
     }

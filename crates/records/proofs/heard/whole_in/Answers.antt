@@ -9,7 +9,7 @@ use Rattle.records.proofs.heard.whole_in.Goals as goal
 use Rattle.records.proofs.heard.whole_in.Goals.{in-Word+in_ok-ok_or-in-Word, in-Noise}
 
 pub returns-in_err-after_kind : goal.returns-in_err-after_kind
-returns-in_err-after_kind c = let p = err_from_is_err_and c.from_residual.result c.from_residual.ensures.1 in rw (p.1, p.2) (kind_refused 3 8 c.args.bytes.now _ c.in_err-after_kind.field-0.0 c.in_err-after_kind.ensures)
+returns-in_err-after_kind c = kind_refused 3 8 c.args.bytes.now _ c.from_residual.result c.in_err-after_kind.field-0.0 c.from_residual.ensures.1 c.in_err-after_kind.ensures
 
 pub returns-in_default : goal.returns-in_default
 returns-in_default c = search (rules, kind_cut)

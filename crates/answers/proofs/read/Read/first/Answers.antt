@@ -1,11 +1,10 @@
 use Rattle.std.proofs.Common.{◌∷◌, refl, arith, rules}
-use Rattle.std.proofs.lemmas.Result.{err_from_is_err_and}
 use Rattle.records.proofs.Firsts.{counted_cut, kind_cut, kind_is, kind_refused, rest_short, rest_long}
 use Rattle.answers.proofs.Said.{read_made}
 use Rattle.answers.proofs.read.Read.first.Goals as goal
 
 pub returns-in_err-after_kind : goal.returns-in_err-after_kind
-returns-in_err-after_kind c = let p = err_from_is_err_and c.from_residual.result c.from_residual.ensures.1 in rw (p.1, p.2) (kind_refused 4 11 c.args.bytes.now _ c.in_err-after_kind.field-0.0 c.in_err-after_kind.ensures)
+returns-in_err-after_kind c = kind_refused 4 11 c.args.bytes.now _ c.from_residual.result c.in_err-after_kind.field-0.0 c.from_residual.ensures.1 c.in_err-after_kind.ensures
 
 pub returns-in_default : goal.returns-in_default
 returns-in_default c = search (rules, kind_cut)

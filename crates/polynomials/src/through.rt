@@ -1,5 +1,6 @@
 // The polynomial through given words, of as many coefficients as there are words, worked out in the memory that is lent for it.
 // f = y₀ + (X - x₀) · g, where g goes through the slopes (yᵢ - y₀) / (xᵢ - x₀) of the other words: a recursion over the words left.
+// Words and values go side by side: each step lends a part of both to the next and then has the whole again, so a struct round them would be made and taken apart at each step.
 ghost use Rattle.std.specs.Prelude.{◌≡◌, ℕ, ◌<◌, true, false, T, length, drop, ◌≢◌, slice_index};
 ghost use Rattle.polynomials.specs.Heard.{Fitted, Product, Reduced, Slope, part_at, words_in};
 ghost use Rattle.speakall.specs.Code.{sound_in};
@@ -21,8 +22,6 @@ fn slope(x: u8, y: u32, x0: u8, y0: u32) -> u32
     let rise = u64::from(y) + (P - u64::from(y0));
     (rise * inverse_of_difference(x, x0) % P) as u32
 }
-
-// Words and values go side by side: each step lends a part of both to the next and then has the whole again, so a struct round them would be made and taken apart at each step.
 
 // Each value becomes the slope from the point (x₀, y₀) to the point of its word's part and itself.
 fn slopes(x0: u8, y0: u32, words: &[PartWord], values: &mut [u32])

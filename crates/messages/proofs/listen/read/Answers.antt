@@ -1,5 +1,5 @@
 -- Each way to a reading.
-use Rattle.std.proofs.Common.{◌≤◌, sym, refl, arith, rules}
+use Rattle.std.proofs.Common.{ℕ, ◌≤◌, take, drop, sym, refl, ap, ◌∙◌, arith, rules}
 use Rattle.messages.proofs.Listening.{found, none}
 use Rattle.messages.proofs.listen.read.Goals as goal
 use Rattle.messages.proofs.listen.read.Goals.{else-interpolate-via-then-interpolate+else-fits, else-interpolate-via-else-interpolate}
@@ -10,8 +10,8 @@ use Rattle.std.proofs.lemmas.List.{length-map}
 
 pub returns-then-fits-clause-made : goal.returns-then-fits-clause-made
 returns-then-fits-clause-made c =
-    let first = rw c.fill.auto.self at c.split_at.ensures.front in
-    let others = rw c.fill.auto.self at c.split_at.ensures.back in
+    let first = c.split_at.ensures.front ∙ ap (λ (n : ℕ). take n c.args.words.now) c.fill.auto.self in
+    let others = c.split_at.ensures.back ∙ ap (λ (n : ℕ). drop n c.args.words.now) c.fill.auto.self in
     let fitted = c.if-interpolate.ensures in (
       sym (length-map c.args.words.now word_of),
       refl,
@@ -20,8 +20,8 @@ returns-then-fits-clause-made c =
 
 pub returns-clause-made : goal.returns-clause-made
 returns-clause-made c =
-    let first = rw c.fill.auto.self at c.split_at.ensures.front in
-    let others = rw c.fill.auto.self at c.split_at.ensures.back in
+    let first = c.split_at.ensures.front ∙ ap (λ (n : ℕ). take n c.args.words.now) c.fill.auto.self in
+    let others = c.split_at.ensures.back ∙ ap (λ (n : ℕ). drop n c.args.words.now) c.fill.auto.self in
     let few : c.parts.result ≤ 251 = omega (arith, c.parts.ensures, c.args.channel.narrow) in (
       omega (arith, length-map c.args.words.now word_of, c.fill.auto.self),
       elim c.else-interpolate.branch [

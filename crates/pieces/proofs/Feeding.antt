@@ -1,7 +1,7 @@
 -- Bytes fed one after the other, and the end of an input.
--- fed_none, fed_more, fed_all, fed_kept, finish_none, finish_cut. Assumes nothing.
-use Rattle.std.proofs.Common.{◌≡◌, ℕ, ◌+◌, ◌-◌, ◌^◌, ◌<◌, ◌≤◌, min, true, List, [], ◌∷◌, ◌++◌, length, get_or, take, Some, None, sym, refl, ap, ◌∙◌, subst, arith}
-use Rattle.std.proofs.lemmas.List.{append_assoc, append-nil, take_all, take_at, take_more, length-append}
+-- fed_more, finish_none, finish_cut. Assumes nothing.
+use Rattle.std.proofs.Common.{◌≡◌, ℕ, ◌+◌, ◌-◌, ◌^◌, ◌<◌, min, true, List, [], ◌∷◌, ◌++◌, length, get_or, take, Some, None, sym, refl, ap, ◌∙◌, arith}
+use Rattle.std.proofs.lemmas.List.{append_assoc, append-nil, take_more, length-append}
 use Rattle.channels.specs.declared.channel.Channel.{Channel}
 use Rattle.channels.specs.declared.fault.Fault.TheVariants.{Kind as FaultKind}
 use Rattle.records.specs.Hearing.{heard_in}
@@ -16,9 +16,6 @@ use Rattle.pieces.specs.Coming.{after, coming}
 use Rattle.pieces.specs.Readers.{Fed, coming_of}
 use Rattle.pieces.specs.declared.heard_reader.HeardReader.{HeardReader}
 
-pub fed_none : (r : HeardReader) (piece : List ℕ) (before : List Heard) → Fed r (take 0 piece) before r before
-fed_none r piece before = ([], sym (append-nil before), λ more. refl)
-
 pub fed_more : (r s t : HeardReader) (piece : List ℕ) (before mid now hs : List Heard) (i b : ℕ) → i < length piece → b ≡ get_or piece i 0 → Fed r (take i piece) before s mid →
     ((more : List ℕ) → coming_of s (b ∷ more) ≡ after hs (coming_of t more)) → now ≡ mid ++ hs → Fed r (take (i + 1) piece) before t now
 fed_more r s t piece before mid now hs i b l e (given, is, so) h n = (
@@ -29,13 +26,6 @@ fed_more r s t piece before mid now hs i b l e (given, is, so) h n = (
       ap (coming_of r) front ∙ so (b ∷ more) ∙ ap (after given) (h more)
       ∙ ap (λ (xs : List Heard). record { channel = (coming_of t more).channel; given = xs; stopped = (coming_of t more).stopped }) (sym (append_assoc given hs (coming_of t more).given)),
 )
-
-pub fed_all : (r s : HeardReader) (piece : List ℕ) (before now : List Heard) (i : ℕ) → length piece ≤ i → Fed r (take i piece) before s now → Fed r piece before s now
-fed_all r s piece before now i h f = subst (λ (bs : List ℕ). Fed r bs before s now) (take_all i piece h) f
-
--- the records from before are still there
-pub fed_kept : (r s : HeardReader) (piece : List ℕ) (before now : List Heard) (n : ℕ) → n ≡ length before → Fed r piece before s now → take n now ≡ before
-fed_kept r s piece before now n e f = ap (take n) f.1 ∙ take_at before f.0 n (sym e)
 
 -- the end of an input, in front of a record and within one
 module _ (phase : Phase) (byte : ℕ) (held : List ℕ) (c : Channel) (low : ℕ) (p : phase ≡ Records c low) where

@@ -1,7 +1,7 @@
 -- One byte more: a record is whole, is faulty, or is still short.
 -- short_from, opened-whole, opened_wrong, heard-whole, heard_wrong. Assumes nothing.
 use Rattle.std.proofs.Common.{◌≡◌, ℕ, ◌+◌, ◌-◌, ◌^◌, ◌<◌, min, true, List, [], ◌∷◌, ◌++◌, length, Some, None, Option, sym, refl, ap, ◌∙◌, subst, ap₂, arith, Ok, Err, Result}
-use Rattle.std.proofs.lemmas.List.{append_assoc, drop_at, length-append}
+use Rattle.std.proofs.lemmas.List.{drop_at, length-append}
 use Rattle.channels.specs.declared.channel.Channel.{Channel}
 use Rattle.channels.specs.declared.fault.Fault.{Fault}
 use Rattle.channels.specs.Settings.{settings}
@@ -17,9 +17,7 @@ use Rattle.reading.proofs.Bytes.{Alike, byte_whole, byte_wrong, elsewhere, last_
 use Rattle.reading.proofs.ChannelLaws.{channel_short, channel-stays}
 use Rattle.reading.proofs.HeardLaws.{clash, heard_lawful, short-wrong}
 use Rattle.readers.specs.Inputs.{read_input}
-use Rattle.pieces.specs.declared.phase.Phase.{Phase}
-use Rattle.pieces.specs.declared.phase.Phase.TheVariants.{Opening, Records}
-use Rattle.pieces.specs.Coming.{Answer, after, answered, coming, told}
+use Rattle.pieces.specs.Coming.{Answer, after, answered, told}
 use Rattle.pieces.specs.Waiting.{is_short}
 use Rattle.speakall.specs.Plan as statement
 
@@ -81,15 +79,3 @@ module _ (channel : Option statement.Channel) (q low byte : ℕ) (held more : Li
       let step = byte_wrong (heard_format q) (heard_lawful q) low byte held more g p e in
       let low_byte : min byte (2 ^ 64 - 1) ≡ byte = omega arith in
       rw (step, low_byte) refl
-
--- a byte that comes stands behind those that are held
-moved : (front held more : List ℕ) (b : ℕ) → held ≡ front ++ (b ∷ []) → front ++ (b ∷ more) ≡ held ++ more
-moved front held more b h = sym (append_assoc front (b ∷ []) more) ∙ ap (λ (bs : List ℕ). bs ++ more) (sym h)
-
-pub step_opening : (phase : Phase) (byte : ℕ) (front held more : List ℕ) (b : ℕ) (a : Answer) → phase ≡ Opening → held ≡ front ++ (b ∷ []) → answered (read_input (λ c. heard_format c.q) (held ++ more)) ≡ a →
-    coming phase byte front (b ∷ more) ≡ a
-step_opening phase byte front held more b a p h e = rw (p, moved front held more b h) e
-
-pub step_records : (phase : Phase) (byte : ℕ) (front held more : List ℕ) (b : ℕ) (a : Answer) (c : Channel) (low : ℕ) → phase ≡ Records c low → held ≡ front ++ (b ∷ []) →
-    answered (record { channel = Some (settings c); reading = read_from (heard_format c.q) low byte 0 (held ++ more) }) ≡ a → coming phase byte front (b ∷ more) ≡ a
-step_records phase byte front held more b a c low p h e = rw (p, moved front held more b h) e

@@ -41,9 +41,6 @@ module _ {A : Type 0} (f : Format A) (law : Lawful f) where
   found_again : (low : ℕ) (bs : List ℕ) (c : ℕ) (y : A) → f.first low (take c bs) ≡ Ok y → f.first low bs ≡ Ok y
   found_again low bs c y e = subst (λ ys. f.first low ys ≡ Ok y) (take-append-drop c bs) (law.whole_more low (take c bs) (drop c bs) y e)
 
-  wrong_again : (low : ℕ) (bs : List ℕ) (c : ℕ) (g : Fault) → f.first low (take c bs) ≡ Err (Wrong g) → f.first low bs ≡ Err (Wrong g)
-  wrong_again low bs c g e = subst (λ ys. f.first low ys ≡ Err (Wrong g)) (take-append-drop c bs) (law.wrong_more low (take c bs) (drop c bs) g e)
-
   pub found_cut : (low : ℕ) (bs : List ℕ) (c : ℕ) (x : A) → f.first low bs ≡ Ok x → f.size x ≤ c → f.first low (take c bs) ≡ Ok x
   found_cut low bs c x e h =
       let own = law.whole_more low (take (f.size x) bs) (drop (f.size x) (take c bs)) x (law.whole-own low bs x e) in

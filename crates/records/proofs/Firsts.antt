@@ -2,7 +2,7 @@
 -- first_none, first-other, first_cut, first_then; kind_is, kind_refused, channel_refused, kind_cut; channel_made, channel-not; heard-word_cut, heard_unknown, heard-word, heard_noise, heard_made;
 -- counted_cut, counted; rest_short, rest_long. Assumes nothing.
 use Rattle.std.proofs.Common.{◌≡◌, ℕ, ◌+◌, ◌-◌, ◌*◌, ◌<◌, ◌≤◌, Bool, true, false, cond, eqb, ltb, List, [], ◌∷◌, length, get_or, take, drop, sym, refl, ap, ◌∙◌, arith, Ok, Err, Result}
-use Rattle.std.proofs.lemmas.List.{take_rest, length-take, length-drop}
+use Rattle.std.proofs.lemmas.List.{take_rest, length-drop}
 use Rattle.std.proofs.lemmas.Result.{err_from_is_err_and}
 use Rattle.std.specs.Result.{IsErrAnd}
 use Rattle.std.proofs.lemmas.Bool.{eqb-true, ltb-false}
@@ -111,12 +111,6 @@ module _ (bs : List ℕ) where
 
   pub rest_long : (at n : ℕ) → n ≤ length (take (length bs - at) (drop at bs)) → at ≤ length bs → at + n ≤ length bs
   rest_long at n h l = omega (arith, simp (take_rest, length-drop) at h)
-
-  pub rest_word : (w : List ℕ) → w ≡ take 12 (take (length bs - 8) (drop 8 bs)) → length w ≡ 12 → 8 ≤ length bs → (20 ≤ length bs) × (w ≡ take 12 (drop 8 bs))
-  rest_word w e h l =
-      let same = simp take_rest at e in
-      let n = simp (length-take, length-drop) at (ap length same) in
-      (omega arith, same)
 
 -- a record whose length a count in it decides
 module _ {A : Type 0} (kind least size : ℕ) (bs : List ℕ) (x : A) where

@@ -1,3 +1,2 @@
 -- What is written, and that it is read back.
-mod Putting
 mod Backward

@@ -1,13 +1,7 @@
-use Rattle.std.proofs.Common.{List, vec_items, sym, ap, ◌∙◌}
-use Rattle.records.specs.declared.heard.Heard.{Heard}
-use Rattle.std.proofs.lemmas.Result.{err_from_is_err_and}
-use Rattle.pieces.specs.Coming.{Answer, after}
-use Rattle.pieces.specs.Readers.{coming_of}
+use Rattle.std.proofs.Common.{vec_items, sym, ap, ◌∙◌}
+use Rattle.pieces.specs.Coming.{Answer}
 use Rattle.pieces.proofs.Joining.{joins_more, joins_all}
 use Rattle.pieces.proofs.together.read_pieces.Goals as goal
-
-pub loop-piece-init : goal.loop-piece-init
-loop-piece-init c = λ more. sym (c.new-reader.ensures more) ∙ ap (λ (xs : List Heard). after xs (coming_of c.new-reader.result more)) (sym c.new-records.ensures.items)
 
 pub loop-piece-preserved : goal.loop-piece-preserved
 loop-piece-preserved c =
@@ -22,6 +16,3 @@ returns c =
       given = ap (λ (a : Answer). a.given) (sym e);
       stopped = c.finish.ensures.stopped ∙ ap (λ (a : Answer). a.stopped) (sym e);
     }
-
-pub returns-in_err-reader : goal.returns-in_err-reader
-returns-in_err-reader c = let p = err_from_is_err_and c.from_residual.result c.from_residual.ensures.1 in rw (p.1, p.2) c.in_err-reader.ensures.0

@@ -1,7 +1,7 @@
 use Rattle.std.proofs.Common.{sym, ap, ◌∙◌, rules}
 use Rattle.channels.specs.Settings.{settings}
 use Rattle.records.specs.Channels.{settled}
-use Rattle.readers.proofs.Wholes.{channel_long, input_is}
+use Rattle.readers.proofs.Wholes.{channel_long}
 use Rattle.readers.proofs.input_read.read_input.Goals as goal
 
 pub slice_bounds-read_records-count : goal.slice_bounds-read_records-count
@@ -11,7 +11,3 @@ pub slice_bounds-read_records-start : goal.slice_bounds-read_records-start
 slice_bounds-read_records-start g c =
     let l = channel_long c.args.bytes.now (settings c.in-Ok.channel) (sym c.channel_first-found.ensures ∙ ap settled c.in-Ok.is) in
     search rules
-
-pub returns : goal.returns
-returns g c =
-    input_is g.R.Record.seen g.R.Record.format c.args.bytes.now c.in-Ok.channel c.in_ok-read.read (sym c.channel_first-found.ensures ∙ ap settled c.in-Ok.is) c.in_ok-read.ensures.read

@@ -2,5 +2,5 @@ use Rattle.std.proofs.Common.{rules}
 use Rattle.answers.proofs.Said.{read_back}
 use Rattle.answers.proofs.read.Read.to_bytes.Goals as goal
 
-pub returns : goal.returns
-returns c = record { bytes = search rules; back = read_back c.args.self c.laid_out.result (search rules) (search rules) c.laid_out.ensures }
+pub returns-clause-back : goal.returns-clause-back
+returns-clause-back c = read_back c.args.self c.laid_out.result (search rules) (search rules) c.laid_out.ensures

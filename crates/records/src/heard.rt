@@ -162,7 +162,7 @@ impl Heard {
     }
 }
 
-// Eight bytes and then twelve.
+// Eight bytes and then twelve. A function for all lengths would need the sum of two as a third, and that it is the sum.
 fn joined(head: [u8; 8], word: [u8; 12]) -> [u8; 20]
     ensures { result ≡ head ++ word }
 {

@@ -20,7 +20,7 @@ pub struct AirWord {
     ghost narrow: { sender < 2 ^ 24 },
 }
 
-// The eight bytes and then the sum.
+// The eight bytes and then the sum. A function for all lengths would need the sum of two as a third, and that it is the sum.
 fn joined(body: [u8; 8], sum: [u8; 4]) -> [u8; 12]
     ensures { result ≡ body ++ sum }
 {

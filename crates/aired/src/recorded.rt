@@ -20,9 +20,7 @@ fn what_of(channel: Channel, frame: u32, part: u8, slot: Slot) -> Option<What>
     match slot {
         Slot::Silence => None,
         Slot::One { sender, word } => {
-            let Ok(said) = AirWord::new(channel, sender, frame, word) else {
-                return None;
-            };
+            let said = AirWord::new(channel, sender, frame, word).ok()?;
             Some(What::Word(said.to_bytes(part)))
         }
         Slot::Noise => Some(What::Noise),

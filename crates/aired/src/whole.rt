@@ -28,9 +28,7 @@ pub fn through_bytes(heap: Global, frame: &Frame, number: u32) -> Result<Aired, 
     let records = records_of(heap, frame, number)?;
     let bytes = heard_input_bytes(heap, frame.channel(), &records)?;
     let input = read_heard_input(heap, &bytes)?;
-    let Some(channel) = input.channel else {
-        return Err(Fault::Kind);
-    };
+    let channel = input.channel.ok_or(Fault::Kind)?;
     let frame = frame_of(heap, channel, number, &input.read.records)?;
     Ok(Aired { bytes, frame })
 }

@@ -15,8 +15,6 @@ pub fn write_message(out: &mut Vec<u8>, numbers: &[u32]) -> Result<(), Fault>
     ensures bytes { PutOr (λ e. (e ≡ FaultMessage) × (255 < length numbers.now)) result out.old.items (bytes_of_message numbers.now) out.new.items }
     ensures back { MessagesBack }
 {
-    let Ok(count) = u8::try_from(numbers.len()) else {
-        return Err(Fault::Message);
-    };
+    let count = u8::try_from(numbers.len()).map_err(|_| Fault::Message)?;
     put_whole(out, &message_head(count), numbers)
 }

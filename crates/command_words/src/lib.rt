@@ -34,7 +34,7 @@ mod tests {
 
     #[test]
     fn lines(rt: HostRuntime) -> Result<(), Fail> {
-        let line = Line(Channel::new(29, 3, 9)?);
+        let line = Line::of(Channel::new(29, 3, 9)?);
         let line = line.to_string(rt.alloc())?;
         assert!(rt; line.as_str() == "29 3 9: 841 slots, 24389 senders, messages of 11 numbers");
         let texts = vec![in rt.alloc(); String::from_str(rt.alloc(), "9k")?]?;

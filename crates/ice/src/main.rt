@@ -66,7 +66,7 @@ fn draw(heap: Global, q: u64, d: u64, k: u64, spoken: &[Spoken]) -> Result<Pictu
     let meetings = ice_lines::meetings(heap, channel, &numbers)?;
     let readings = readings(heap, channel, &frame, &numbers)?;
     Ok(Picture {
-        line: Line(channel),
+        line: Line::of(channel),
         sections: [plans, grid, meetings, readings],
     })
 }

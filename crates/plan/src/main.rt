@@ -41,10 +41,10 @@ fn find(heap: Global, wish: Wish) -> Result<Found, Fault> {
 // Prints the best channel, and then all that would do.
 fn print(rt: &HostRuntime, found: Found) -> anyhow::Result<ExitCode> {
     let mut out = BufWriter::new(rt.alloc(), rt.stdout())?;
-    let best = Line(found.best);
+    let best = Line::of(found.best);
     writeln!(out, "{best}\n\nAll that would do:")?;
     for channel in found.all {
-        let line = Line(channel);
+        let line = Line::of(channel);
         writeln!(out, "{line}")?;
     }
     out.flush()?;

@@ -100,7 +100,7 @@ mod tests {
     #[test]
     fn lines(rt: HostRuntime) -> Result<(), Fail> {
         let channel = Channel::new(29, 3, 9)?;
-        let line = Line(channel).to_string(rt.alloc())?;
+        let line = Line::of(channel).to_string(rt.alloc())?;
         assert!(rt; line.as_str() == "29 3 9: 841 slots, 24389 senders, messages of 11 numbers");
         assert!(rt; bytes(channel) == [1, 29, 3, 9]);
         Ok(())

@@ -1,7 +1,11 @@
 // Inputs, whole and in pieces: how many records are read, the fault's number (0 for none) and its byte.
+use channels::Channel;
 use pieces::read_pieces;
-use readers::{read_heard_input, read_message_input};
+use readers::{
+    InputRead, RecordsRead, read_heard_input, read_input, read_message_input, read_records,
+};
 use reading::Stopped;
+use records::Heard;
 use std::alloc::Global;
 use std::test::Fail;
 
@@ -139,5 +143,23 @@ fn messages(rt: HostRuntime) -> Result<(), Fail> {
         let input = with_channel(heap, bytes)?;
         assert_eq!(rt; message_whole(heap, &input)?, answer);
     }
+    Ok(())
+}
+
+// Records of any kind, behind the channel's record and with it.
+#[test]
+fn of_any_kind(rt: HostRuntime) -> Result<(), Fail> {
+    let heap = rt.alloc();
+    let channel = Channel::new(5, 2, 2)?;
+    let heard = b"\x03\x00\x00\x00\x01\x04\x04\x02";
+    let read: RecordsRead<Heard> = read_records(heap, channel, heard)?;
+    assert!(rt; read.records.len() == 1 && read.stopped.is_none());
+    let input = with_channel(
+        heap,
+        b"\x02\x03\x00\x00\x00\x07\x00\x00\x00\x00\x00\x00\x00\x00",
+    )?;
+    let input: InputRead<Vec<u32>> = read_input(heap, &input)?;
+    assert_eq!(rt; input.channel, Some(channel));
+    assert!(rt; input.read.records.len() == 1 && input.read.stopped.is_none());
     Ok(())
 }

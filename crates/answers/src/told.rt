@@ -19,7 +19,7 @@ pub enum Telling {
     Crowded,
 }
 
-// Which of these is told, by the fault's number.
+// Which of these is told, by the number of its `Fault`; apart, since of the ten faults only three are told.
 #[derive(Clone, Copy, PartialEq, Eq, Debug)]
 enum Cause {
     TooFew,

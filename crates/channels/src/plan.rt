@@ -12,7 +12,7 @@ pub struct Plan {
     q: u8,
     // The sender's number written to the base q, the lowest digit first.
     digits: [u8; 4],
-    // How many of the digits count; the others are 0. Not a `Vec`: a plan is copied, and made without memory.
+    // How many of the digits count; the others are 0. Not a vector: a plan is copied, and neither a `Vec` nor an `ArrayVec` is.
     count: u8,
     ghost wide: { 2 < q },
     ghost narrow: { q < 252 },

@@ -1,7 +1,7 @@
 -- A list that is made of another, one item after the other: each stands in a relation to its own.
--- each_push, each_none, each_more, each_all. Assumes nothing.
-use Rattle.std.proofs.Common.{◌≡◌, ℕ, ◌+◌, ◌<◌, ◌≤◌, List, [], ◌∷◌, ◌++◌, length, get_or, take, sym, ap, ◌∙◌}
-use Rattle.std.proofs.lemmas.List.{take_all, take_more}
+-- each_push, each_none, each_more. Assumes nothing.
+use Rattle.std.proofs.Common.{◌≡◌, ℕ, ◌+◌, ◌<◌, List, [], ◌∷◌, ◌++◌, length, get_or, take, sym, ap, ◌∙◌}
+use Rattle.std.proofs.lemmas.List.{take_more}
 use Rattle.command_words.specs.Each.{Each}
 
 module _ {X Y : Type 0} (R : X → Y → Type 0) where
@@ -20,6 +20,3 @@ module _ {X Y : Type 0} (R : X → Y → Type 0) where
   each_more xs i ys x y h e r so =
       let t : take (i + 1) xs ≡ take i xs ++ (x ∷ []) = take_more xs i x h ∙ ap (λ (z : X). take i xs ++ (z ∷ [])) (sym e) in
       rw t (each_push (take i xs) ys x y so r)
-
-  pub each_all : (xs : List X) (i : ℕ) (ys : List Y) → length xs ≤ i → Each R (take i xs) ys → Each R xs ys
-  each_all xs i ys h so = rw (take_all i xs h) at so

@@ -10,7 +10,7 @@ use channels::Channel;
 use messages::Reading;
 use polynomials::{PartWord, is_sound};
 
-// The reading of words with parts below `parts`.
+// The reading of words with parts below `parts`. Beside `messages::read`, which reads only what lies on all words, and searches nothing.
 fn decide(parts: u8, words: &[PartWord], message: &mut [u32]) -> Reading
     requires { parts < 252 }
     ensures { Answer parts (length message.old) (words_in words.now) result message.new }

@@ -38,7 +38,7 @@ fn keep(words: &[PartWord], block: usize, out: &[usize], room: &mut [PartWord])
         .iter()
         .enumerate()
         .filter(|(i, _)| !is_out(*i / block, out));
-    // The room by place: of memory lent by a `zip` nothing is known after the loop.
+    // By place: after a loop over `iter_mut()` in a `zip` the contracts say nothing of the memory.
     for (place, (_, word)) in left.take(room.len()).enumerate() {
         room[place] = *word;
     }
@@ -107,6 +107,7 @@ impl<'a> Search<'a> {
         requires enough { length message.old ≤ length (left_in block out.now 0 self.now.words.now) }
         ensures { Tried (length message.old) self.now.spare self.now.words.now (Fails (length message.old) self.now.spare (words_in self.now.words.now) block out.now) result message.new }
     {
+        // By value, as large as the largest frame: reading takes no memory.
         let mut room = [PartWord { part: 0, value: 0 }; PARTS];
         let kept = &mut room[..message.len()];
         keep(self.words, block, out, kept);
@@ -123,6 +124,7 @@ impl<'a> Search<'a> {
         let size = message.len();
         let block = (words.len() - size) / spare;
         let blocks = (words.len() - 1) / block + 1;
+        // Four loops, left by a label: a set of up to four blocks, each below the one before.
         let mut found = None;
         'sets: for i in 0..blocks {
             for j in first(spare, 2, i)..end(spare, 2, i) {

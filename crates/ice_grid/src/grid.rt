@@ -62,7 +62,7 @@ fn label(heap: Global, y: u8) -> Result<String, AllocError>
     format!(in heap; "{y:3}")
 }
 
-// The signs of slot y in all parts; none where the frame has no such slot.
+// The signs of slot y in all parts; none where the frame has no such slot. Not one function of a closure with `header`: here a slot may be missing, and each has a text of its own.
 fn put_signs(text: &mut String, frame: &Frame, numbers: &[u32], y: u8) -> Result<(), AllocError>
     ensures { OnOk result (string_bytes text.new ≡ string_bytes text.old ++ signs_of frame.now.channel.q frame.now.slots.items numbers.now y) }
 {

@@ -87,6 +87,7 @@ pub fn read(heap: Global, reading: Reading, message: &[u32]) -> Result<String, A
     ensures { IfOk result (λ s. string_bytes s ≡ read_text reading message.now) }
 {
     let size = message.len();
+    // The numbers of `Fault::TooFew` and `Fault::Doubtful`, written out: `Fault::number` answers an `Option`, since want of memory has none.
     match reading {
         Reading::TooFew(n) => {
             let words = words_for(n);

@@ -38,6 +38,7 @@ fn most(channel: Channel, numbers: &[u32], limit: u8) -> Result<u8, Fault>
     ensures { IfOk result (λ m. m ≡ most_of limit (counts_of (settings channel) numbers.now)) }
 {
     let mut top = 0;
+    // By the senders left: each is paired with those behind it, and no iterator gives the rest of its slice.
     let mut left = numbers;
     while let [number, others @ ..] = left {
         top = most_with(channel, *number, others, limit, top)?;

@@ -11,10 +11,10 @@ use channels::{Channel, Fault};
 pub fn channel_of(q: u64, d: u64, k: u64) -> Result<Channel, Fault>
     ensures { MatchResult result (λ c. Made c q d k) (λ e. (e ≡ FaultChannel) × (Valid q d k → k < 256 → ⊥)) }
 {
-    match (u8::try_from(q), u8::try_from(d), u8::try_from(k)) {
-        (Ok(q), Ok(d), Ok(k)) => Channel::new(q, d, k),
-        _ => Err(Fault::Channel),
-    }
+    let q = u8::try_from(q).map_err(|_| Fault::Channel)?;
+    let d = u8::try_from(d).map_err(|_| Fault::Channel)?;
+    let k = u8::try_from(k).map_err(|_| Fault::Channel)?;
+    Channel::new(q, d, k)
 }
 
 // The number, or the widest of 32 bits for a wider one, which is refused as that would be:

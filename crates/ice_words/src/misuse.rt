@@ -52,6 +52,7 @@ impl fmt::Display for Misuse {
     }
 }
 
+// The program's own name and cases; what is the same for both programs is `command_words::told`.
 // The line for the user, with the word that is wrong where there is one.
 pub fn told(heap: Global, misuse: Misuse, texts: &[String]) -> Result<String, AllocError>
     ensures { IfOk result (λ s. Told texts.now misuse (string_bytes s)) }

@@ -1,5 +1,6 @@
 // What the arguments ask for: `frame`, the channel's three numbers, and then a word for each sender.
 ghost use Rattle.ice_words.specs.Words.{Asked, Numbered, misuse_of};
+ghost use Rattle.ice_words.specs.declared.request.Misuse.TheVariants.{Memory};
 ghost use Rattle.std.specs.Prelude.{◌≡◌};
 
 use command_words::{number, word_at};
@@ -38,19 +39,23 @@ pub enum Misuse {
 }
 
 impl From<AllocError> for Misuse {
+    ghost from_gives = { λ _ r. r ≡ Memory };
+
     fn from(_e: AllocError) -> Misuse {
         Misuse::Memory
     }
 }
 
 impl<T: Drop> From<AllocFailed<T>> for Misuse {
+    ghost from_gives = { λ _ r. r ≡ Memory };
+
     fn from(_e: AllocFailed<T>) -> Misuse {
         Misuse::Memory
     }
 }
 
 impl Misuse {
-    // Why the word in this place gives no sender.
+    // Why the word in this place gives no sender. Not a `From`: it needs the word's place too.
     fn of(i: usize, wrong: Wrong) -> Misuse
         ensures { result ≡ misuse_of i wrong }
     {

@@ -4,7 +4,7 @@ ghost use Rattle.std.specs.Prelude.{◌≤◌};
 mod holding;
 
 // At most 20 bytes, as many as a record has that holds a word.
-// An array and a count: a reader is copied and takes no memory, and a vector, also one of fixed size, is not copied.
+// An array and its count: a reader is copied, and neither a `Vec` nor an `ArrayVec` is.
 #[derive(Clone, Copy)]
 pub struct Held {
     bytes: [u8; 20],

@@ -1,20 +1,17 @@
 -- The words of the first texts, and of one text more.
--- MeantTo, meant_none, meant_more, meant_all. Assumes nothing.
+-- MeantTo, meant_more. Assumes nothing.
 use Rattle.std.proofs.Common.{◌≡◌, ℕ, ◌+◌, ◌<◌, List, [], ◌∷◌, ◌++◌, length, get_or, string_bytes, String, sym, ap, ◌∙◌, ⊎_elim, arith, length-append}
 use Rattle.std.proofs.lemmas.List.{get_or_append_left, get_or_push, get_or_read}
 use Rattle.std.proofs.lemmas.Bool.{cases_eq}
 use Rattle.std.specs.declared.alloc.Global.{Global}
 use Rattle.plan_words.specs.declared.word.Word.{Word}
-use Rattle.plan_words.specs.Words.{AllMeant, Means}
+use Rattle.plan_words.specs.Words.{Means}
 
 module _ (texts : List (String Global)) where
   -- the first n words are what the first n texts mean
   pub record MeantTo (n : ℕ) (ws : List Word) : Type 0 where
     pub count : length ws ≡ n
     pub means : (i : ℕ) (s : String Global) (w : Word) → i < n → Means (string_bytes (get_or texts i s)) (get_or ws i w)
-
-  pub meant_none : MeantTo 0 []
-  meant_none = record { count = omega arith; means = λ i s w h. absurd (omega arith) }
 
   pub meant_more : (n : ℕ) (ws : List Word) (x : String Global) (w : Word) → n < length texts → x ≡ get_or texts n x → Means (string_bytes x) w → MeantTo n ws → MeantTo (n + 1) (ws ++ (w ∷ []))
   meant_more n ws x w l e m h =
@@ -32,6 +29,3 @@ module _ (texts : List (String Global)) where
             rw (get_or_append_left ws (w ∷ []) v i (omega arith)) (h.means i s v b))
             (cases_eq i n);
       }
-
-  pub meant_all : (n : ℕ) (ws : List Word) → n ≡ length texts → MeantTo n ws → AllMeant texts ws
-  meant_all n ws e h = record { count = h.count ∙ e; means = λ i s w k. h.means i s w (omega arith) }

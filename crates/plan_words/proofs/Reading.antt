@@ -1,13 +1,12 @@
 -- The words are read one after the other: those read are sound, and the answer is the one for all.
--- Held, held_more, answer_stopped, answer_ended. Assumes nothing.
-use Rattle.std.proofs.Common.{◌≡◌, ℕ, ◌+◌, ◌<◌, ◌≤◌, Bool, true, false, ◌||◌, List, [], ◌∷◌, ◌++◌, length, get_or, take, sym, refl, ap, ◌∙◌, arith}
+-- Held, held_more. Assumes nothing.
+use Rattle.std.proofs.Common.{◌≡◌, ℕ, ◌+◌, ◌<◌, ◌≤◌, Bool, ◌||◌, List, [], ◌∷◌, ◌++◌, length, get_or, take, sym, refl, ap}
 use Rattle.std.specs.List.{AllByRecursion}
-use Rattle.std.proofs.lemmas.List.{get_or_default, take_all, take_more}
+use Rattle.std.proofs.lemmas.List.{take_more}
 use Rattle.std.proofs.ByRecursion.{All-push}
 use Rattle.plan_words.specs.declared.word.Word.{Word}
 use Rattle.plan_words.specs.declared.word.Word.TheVariants as word
-use Rattle.plan_words.specs.declared.request.Asked.{Asked}
-use Rattle.plan_words.specs.Words.{Answer, Fine, Sound, StopsAt, Stops, ended_with, is_raw, numbers_of, stopped_by}
+use Rattle.plan_words.specs.Words.{Fine, Sound, is_raw, numbers_of}
 
 numbers_append : (vs ws : List Word) → numbers_of (vs ++ ws) ≡ numbers_of vs ++ numbers_of ws
 numbers_append [] ws = refl
@@ -45,28 +44,3 @@ held_more ws i d r s n m l j h =
       raw = rw (t, raw_append (take i ws) (w ∷ []), h.raw) (sym j.2);
       few = j.3;
     }
-
-module _ (ws : List Word) (i : ℕ) (a : Asked) (l : i < length ws) (h : Held a.raw a.numbers.items (take i ws)) where
-  stops_at : (w : Word) → w ≡ get_or ws i w → StopsAt ws i w
-  stops_at w e = record { here = l; word = e; before = sound a.raw a.numbers.items (take i ws) h }
-
-  answer_at : (w : Word) → w ≡ get_or ws i w → Stops a w → Answer ws (stopped_by i w)
-  answer_at word.Help e s = (i, stops_at word.Help e)
-  answer_at word.Raw e s = absurd s
-  answer_at word.Unknown e s = stops_at word.Unknown e
-  answer_at (word.Number n) e s = (n, stops_at (word.Number n) e, ap length h.numbers ∙ s)
-  answer_at word.NoNumber e s = stops_at word.NoNumber e
-
-  pub answer_stopped : (d : Word) → Stops a (get_or ws i d) → Answer ws (stopped_by i (get_or ws i d))
-  answer_stopped d s = answer_at (get_or ws i d) (get_or_default ws i d (get_or ws i d) l) s
-
-answer_all : (ws : List Word) (r : Bool) (n : List ℕ) → Held r n ws → Answer ws (ended_with r n)
-answer_all ws r [] h = (sound _ _ _ h, ap length h.numbers, omega arith)
-answer_all ws r (a ∷ []) h = (sound _ _ _ h, ap length h.numbers, omega arith)
-answer_all ws r (a ∷ b ∷ []) h = (sound _ _ _ h, ap length h.numbers, omega arith)
-answer_all ws r (a ∷ b ∷ c ∷ d ∷ ds) h = let few = h.few in absurd (omega arith)
-answer_all ws true (a ∷ b ∷ c ∷ []) h = (sound _ _ _ h, h.numbers, h.raw)
-answer_all ws false (a ∷ b ∷ c ∷ []) h = (sound _ _ _ h, h.numbers, h.raw)
-
-pub answer_ended : (ws : List Word) (i : ℕ) (r : Bool) (n : List ℕ) → length ws ≤ i → Held r n (take i ws) → Answer ws (ended_with r n)
-answer_ended ws i r n l h = answer_all ws r n (rw (take_all i ws l) at h)

@@ -32,10 +32,7 @@ impl From<&str> for Word {
         if text.starts_with('-') {
             return Word::Unknown;
         }
-        match number(text) {
-            Some(n) => Word::Number(n),
-            None => Word::NoNumber,
-        }
+        number(text).map_or(Word::NoNumber, Word::Number)
     }
 }
 

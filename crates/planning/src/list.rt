@@ -14,6 +14,7 @@ fn add_side(wish: Wish, q: u8, found: &mut Vec<Channel>) -> Result<(), Fault>
     requires { AllBefore wish (asked wish q 1) (settings_of found.old.items) }
     ensures { MatchResult result (λ _. AllBefore wish (asked wish q 5) (settings_of found.new.items)) (λ e. e ≡ Memory) }
 {
+    // A loop: of what a vector holds after `extend` with a chain less is known.
     for d in 1..5 {
         if let Some(channel) = serving(wish, q, d) {
             found.push(channel)?;

@@ -22,6 +22,7 @@ fn is_word(parts: u8, word: PartWord) -> bool
 pub fn is_sound(parts: u8, words: &[PartWord]) -> bool
     ensures { result ≡ sound_in parts (words_in words.now) }
 {
+    // From the last word on, as the definition goes; an array of flags, since reading takes no memory.
     let mut seen = [false; 256];
     for &word in words.iter().rev() {
         let part = usize::from(word.part);

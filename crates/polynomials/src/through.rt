@@ -19,6 +19,7 @@ fn slope(x: u8, y: u32, x0: u8, y0: u32) -> u32
     requires { (x < 251) × ((x0 < 251) × (((x ≢ x0)) × ((y < p) × (y0 < p)))) }
     ensures { (result < p) × Slope x y x0 y0 result }
 {
+    // By `as`: below P, so it fits.
     let rise = u64::from(y) + (P - u64::from(y0));
     (rise * inverse_of_difference(x, x0) % P) as u32
 }
@@ -32,7 +33,7 @@ fn slopes(x0: u8, y0: u32, words: &[PartWord], values: &mut [u32])
     ensures reduced { Reduced values.new }
     ensures slopes { (k : ℕ) → k < length words.now → Slope (part_at words.now k) (slice_index values.old k) x0 y0 (slice_index values.new k) }
 {
-    // The words by place: of values lent by a `zip` nothing is known after the loop.
+    // The words by place: after a loop over `iter_mut()` in a `zip` the contracts say nothing of the memory.
     for (i, value) in values.iter_mut().enumerate() {
         *value = slope(words[i].part, *value, x0, y0);
     }
@@ -76,7 +77,7 @@ fn fit(words: &[PartWord], values: &mut [u32])
     ensures reduced { Reduced values.new }
     ensures agrees { T (agrees values.new (words_in words.now)) }
 {
-    // The words by place: of values lent by a `zip` nothing is known after the loop.
+    // The words by place: after a loop over `iter_mut()` in a `zip` the contracts say nothing of the memory.
     for (i, value) in values.iter_mut().enumerate() {
         *value = words[i].value;
     }
@@ -92,7 +93,7 @@ fn can_fit(words: &[PartWord], count: usize) -> bool
 }
 
 // Whether the words are as many as the values, and sound: then the values become the coefficients of the polynomial on which the words lie,
-// in O(s²) products for s words, and otherwise they stay. The answer is a bool: nothing is handed out beside it, and who asks goes on with the values.
+// in O(s²) products for s words, and otherwise they stay. The answer is a bool: the coefficients are in the lent memory, so an `Option` would hold nothing.
 pub fn interpolate(words: &[PartWord], values: &mut [u32]) -> bool
     ensures { Fitted words.now values.old result values.new }
 {

@@ -22,6 +22,7 @@ pub struct InputRead<R> {
 pub fn read_input<R: Record>(heap: Global, bytes: &[u8]) -> Result<InputRead<R>, Fault>
     ensures { MatchResult result (λ i. InputIs R.seen i (read_input R.format bytes.now)) (λ e. e ≡ FaultMemory) }
 {
+    // Taken apart by `let .. else`, as a reader's answer; `no_channel` is asked for what could not be read.
     let found = channel_first(bytes);
     let Ok(channel) = found else {
         return Ok(InputRead {

@@ -1,5 +1,7 @@
 // Whole inputs: the record of a channel and then records of what was heard, or messages to a sender. Each is read to its end or
 // to its first fault, with all that stands before it.
+// For each kind of record there is also a function by name, whose contract speaks of that kind without the trait's members.
+// All errors are `Fault`, so that a caller has one type for `?`; the contracts say that here it is `Fault::Memory`.
 #![tactic(auto)]
 
 pub mod heard_input;

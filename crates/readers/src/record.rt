@@ -29,7 +29,7 @@ pub trait Record: Drop {
     ghost format: { Settings → Format Self.Seen };
 
     // The record that stands first in these bytes on a channel, where its place must be `low` or above; `Fault::Memory` where
-    // no memory is left for it.
+    // no memory is left for it. Two results: one that cannot be read ends the reading with what stands before it, want of memory with nothing.
     fn first(
         heap: Global,
         channel: Channel,

@@ -29,6 +29,7 @@ fn read_to_end<R: Record>(
     let mut left = bytes;
     let mut low: u64 = 0;
     let mut byte: u64 = 4;
+    // By the bytes left: a record says itself how long it is.
     while !left.is_empty() {
         let First { record, size, next } = match R::first(heap, channel, low, left)? {
             Ok(first) => first,

@@ -8,6 +8,7 @@ use crate::kind::{Kind, after_kind};
 use crate::unread::Unread;
 use channels::{Channel, Fault};
 
+// Not an `Option`: noise is heard, and is not the want of a word.
 #[derive(Clone, Copy, PartialEq, Eq, Debug)]
 pub enum What {
     // One word, as its twelve bytes.
@@ -96,7 +97,7 @@ fn whole_in(bytes: &[u8]) -> Result<Heard, Unread>
 
 impl Heard {
     // The place of the record in the order of frame, part and slot.
-    // A number: the lowest place that the next record may have is one more, which a struct of the three could only say by carries.
+    // A number, as the definition has it: the next record may stand one place further on, and 0 is before all.
     pub fn place(self) -> u64
         ensures { result ≡ place_of self }
     {
@@ -162,7 +163,7 @@ impl Heard {
     }
 }
 
-// Eight bytes and then twelve. A function for all lengths would need the sum of two as a third, and that it is the sum.
+// Eight bytes and then twelve. Also in `words`, for 8 and 4 bytes: one function would have three lengths and a `requires` that the third is the sum, in a crate below both.
 fn joined(head: [u8; 8], word: [u8; 12]) -> [u8; 20]
     ensures { result ≡ head ++ word }
 {

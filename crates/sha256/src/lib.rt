@@ -32,7 +32,7 @@ fn hash(message: &Message) -> [u32; 8]
     ensures { result ≡ blocks_done (padded (bytes message.now)) (block_count message.now) }
 {
     let mut hash = constants::initial_hash();
-    // A loop: in a chain the closure would need a clause of its own, that n is below the count of the blocks.
+    // A loop: the closure of a `fold` would not know that n is below the count of the blocks.
     for n in 0..padding::block_count(message) {
         let next = rounds::compress(hash, padding::block_words(message, n));
         hash = next;
@@ -64,7 +64,7 @@ pub fn sha256_of_two(a: &[u8], b: &[u8]) -> [u8; 32]
     digest(&Message::new(a, b))
 }
 
-// The first word of the hash value of nine bytes, which are one block.
+// The first word of the hash value of nine bytes, which are one block, laid out at once: the general way looks up each byte by its place.
 fn first_word(bytes: [u8; 9]) -> u32
     ensures { word_bytes result ≡ take 4 (digest_of bytes) }
 {

@@ -20,7 +20,7 @@ pub struct AirWord {
     ghost narrow: { sender < 2 ^ 24 },
 }
 
-// The eight bytes and then the sum. A function for all lengths would need the sum of two as a third, and that it is the sum.
+// The eight bytes and then the sum. Also in `records`, for 8 and 12 bytes: one function would have three lengths and a `requires` that the third is the sum, in a crate below both.
 fn joined(body: [u8; 8], sum: [u8; 4]) -> [u8; 12]
     ensures { result ≡ body ++ sum }
 {
@@ -49,6 +49,7 @@ impl AirWord {
         }
         Ok(AirWord {
             sender,
+            // By `as`: below 256, so it fits.
             frame: (frame % 256) as u8,
             word,
         })

@@ -9,7 +9,7 @@ ghost use Rattle.words.specs.Counting.{Counts, Speaks, is_counted, sender_in, wo
 use crate::AirWord;
 use channels::{Channel, Plan};
 
-// Words are numbers below this prime.
+// Words are numbers below this prime; it is also in `polynomials`, on which this crate does not stand.
 const P: u32 = 2147483647;
 
 // A word that counts, and the number of the sender whose it is.
@@ -50,7 +50,7 @@ fn speaks(channel: Channel, sender: u32, part: u8, slot: u8) -> bool
     Plan::of(channel, sender).is_ok_and(|plan| plan.slot(part) == Some(slot))
 }
 
-// Whether what was said counts in this slot of this part of this frame.
+// Whether what was said counts in this slot of this part of this frame. The three go side by side: a caller has them from a record or a loop, and no fact joins them.
 fn counts(said: AirWord, channel: Channel, frame: u32, part: u8, slot: u8) -> bool
     ensures { Decides result ((said.frame ≡ frame % 256) × (said.word < p) × Speaks (settings channel) said.sender part slot) }
 {

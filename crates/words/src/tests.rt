@@ -107,11 +107,6 @@ fn senders_and_words_at_their_ends(rt: HostRuntime) -> Result<(), Fail> {
         word: 2147483647,
     };
     assert_eq!(rt; large.heard(c, 0, 0, 4), None);
-    match AirWord::new(c, 25, 0, 0) {
-        Ok(_) => Err(Fail::new("a sender too many")),
-        Err(f) => {
-            assert_eq!(rt; f, Fault::Sender);
-            Ok(())
-        },
-    }
+    assert_eq!(rt; AirWord::new(c, 25, 0, 0).err(), Some(Fault::Sender));
+    Ok(())
 }

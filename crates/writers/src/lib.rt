@@ -1,5 +1,6 @@
 // Records written behind bytes that are there. Where memory fails, or a record is refused, the bytes stay as they were.
 // What is written is read back, whole, where records are in their order and messages are the channel's.
+// All errors are `Fault`, so that a caller has one type for `?`; the contracts say when it is `Fault::Memory`.
 #![tactic(auto)]
 
 pub mod heard;

@@ -25,6 +25,7 @@ fn entry(q: u8, a: u8, sides: &[u8], inverses: &[u8]) -> Option<u8>
     requires below { a < q }
     ensures { MatchOption result ⊥ (λ v. Inverse q a v) }
 {
+    // The table is flat, a row for each side in their order: rows differ in length, so they are no array of arrays.
     let mut rows = inverses;
     for side in sides {
         let (row, more) = rows.split_at(usize::from(side.saturating_sub(1)));

@@ -16,6 +16,7 @@ fn write_digits(number: u32, q: u8, digits: &mut [u8])
     ensures { digits.new ≡ digits_of q number (length digits.old) }
 {
     let mut rest = number;
+    // By `as`: below q, so it fits.
     for digit in digits.iter_mut() {
         *digit = (rest % u32::from(q)) as u8;
         rest /= u32::from(q);
@@ -54,6 +55,7 @@ impl Plan {
         ensures is { result ≡ slot_at self.q (plan_in self) x }
         ensures below { result < self.q }
     {
+        // By `as`: below q, so it fits. A message has such a loop in `polynomials`, modulo a constant and on numbers of 32 bits.
         let q = u64::from(self.q);
         let mut value: u32 = 0;
         for digit in self.digits[..usize::from(self.count)].iter().rev() {

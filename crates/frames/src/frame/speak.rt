@@ -55,6 +55,7 @@ impl Frame {
         ensures same { self.new.channel ≡ self.old.channel }
         ensures said { Said self.old.channel.q (plan_in plan) sender message.now self.old.channel.q self.old.slots.items self.new.slots.items }
     {
+        // Each part below q has a slot, and there is no other part here.
         for part in 0..self.channel.parts() {
             let Some(y) = plan.slot(part) else {
                 return;

@@ -31,6 +31,7 @@ impl Frame {
         ensures { MatchResult result (λ ws. words_in ws.items ≡ words_from (settings self.now.channel) self.now.slots.items (plan_of (settings self.now.channel) number) 0 self.now.channel.q) (λ e. (e ≡ FaultMemory) ⊎ ((e ≡ FaultSender) × (self.now.channel.q ^ self.now.channel.d ≤ number))) }
     {
         let plan = Plan::of(self.channel, number)?;
+        // A loop: a chain's closure would not know that the part is below q, which `word_in` asks.
         let mut words = Vec::new(heap);
         for part in 0..self.channel.parts() {
             words.extend(self.word_in(plan, number, part))?;

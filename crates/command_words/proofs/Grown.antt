@@ -1,6 +1,6 @@
 -- A list that is made of another, one item after the other: each stands in a relation to its own.
--- each_push, each_none, each_more. Assumes nothing.
-use Rattle.std.proofs.Common.{◌≡◌, ℕ, ◌+◌, ◌<◌, List, [], ◌∷◌, ◌++◌, length, get_or, take, sym, ap, ◌∙◌}
+-- each_push, each_length, each_none, each_more. Assumes nothing.
+use Rattle.std.proofs.Common.{◌≡◌, ℕ, suc, ◌+◌, ◌<◌, List, [], ◌∷◌, ◌++◌, length, get_or, take, sym, refl, ap, ◌∙◌}
 use Rattle.std.proofs.lemmas.List.{take_more}
 use Rattle.command_words.specs.Each.{Each}
 
@@ -11,6 +11,13 @@ module _ {X Y : Type 0} (R : X → Y → Type 0) where
   each_push [] (z ∷ zs) x y e r = absurd e
   each_push (w ∷ ws) [] x y e r = absurd e
   each_push (w ∷ ws) (z ∷ zs) x y e r = (e.0, each_push ws zs x y e.1 r)
+
+  pub each_length : (xs : List X) (ys : List Y) → Each R xs ys → length ys ≡ length xs
+  unfolding Each
+  each_length [] [] e = refl
+  each_length [] (y ∷ ys) e = absurd e
+  each_length (x ∷ xs) [] e = absurd e
+  each_length (x ∷ xs) (y ∷ ys) e = ap suc (each_length xs ys e.1)
 
   pub each_none : (xs : List X) → Each R (take 0 xs) []
   unfolding Each

@@ -38,7 +38,7 @@ mod tests {
         let line = line.to_string(rt.alloc())?;
         assert!(rt; line.as_str() == "29 3 9: 841 slots, 24389 senders, messages of 11 numbers");
         let texts = vec![in rt.alloc(); String::from_str(rt.alloc(), "9k")?]?;
-        let line = told(rt.alloc(), "plan", &texts, Some(0), &"no number")?;
+        let line = told(rt.alloc(), "plan", &texts, Some(0), "no number")?;
         assert!(rt; line.as_str() == "plan: 9k: no number");
         Ok(())
     }

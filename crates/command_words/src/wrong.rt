@@ -14,14 +14,14 @@ pub fn word_at(texts: &[String], i: usize) -> Option<&str>
 }
 
 // The line for the user of a program, as `plan: 9k: no number`. The place is that of the wrong word, from 0.
-pub fn told<C: fmt::Display>(
+pub fn told<C: fmt::Display + Drop>(
     heap: Global,
     program: &str,
     texts: &[String],
     place: Option<usize>,
-    cause: &C,
+    cause: C,
 ) -> Result<String, AllocError>
-    ensures { IfOk result (λ s. IfSome (C.output cause.now) (λ text. Told program.now (words_in texts.now) place text (string_bytes s))) }
+    ensures { IfOk result (λ s. IfSome (C.output cause) (λ text. Told program.now (words_in texts.now) place text (string_bytes s))) }
 {
     match place.and_then(|i| word_at(texts, i)) {
         Some(word) => format!(in heap; "{program}: {word}: {cause}"),

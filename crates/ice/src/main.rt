@@ -1,5 +1,5 @@
 // The program that shows one frame: `ice frame Q D K NUMBER[=A,B,..]..` prints who speaks, what is heard and what is read.
-// All that can be said of its answers is said by the contracts of `frames`, `ice_words` and `ice_lines`.
+// All that can be said of its answers is said by the contracts of `ice_words`, `ice_speakers`, `frames`, `ice_lines` and the crates below these.
 #![tactic(auto)]
 
 use channels::{Channel, Fault};

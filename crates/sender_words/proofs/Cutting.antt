@@ -1,6 +1,6 @@
 -- A text is its front, the character and its back, by induction over the front.
--- cut_some, cut_none; reads_number, reads_none. Assumes nothing.
-use Rattle.std.proofs.Common.{◌≡◌, ℕ, zero, suc, ◌<◌, false, eqb, List, [], ◌∷◌, ◌++◌, length, get_or, Some, None, Option, sym, refl, ap, subst, ◌∙◌, arith}
+-- shorter; cut_some, cut_none; reads_number, reads_none. Assumes nothing.
+use Rattle.std.proofs.Common.{◌≡◌, ℕ, zero, suc, ◌<◌, Bool, true, false, cond, eqb, List, [], ◌∷◌, ◌++◌, length, get_or, Some, None, Option, sym, refl, ap, subst, ◌∙◌, arith}
 use Rattle.command_words.specs.Numbers.{IsNumber, Reads}
 use Rattle.std.specs.List.{AllByRecursion}
 use Rattle.std.proofs.lemmas.Bool.{eq-eqb, ne_eqb}
@@ -36,6 +36,16 @@ module _ (c : ℕ) where
   unfolding after
   after_none [] free = refl
   after_none (b ∷ bs) free = rw (head_not b bs free) (after_none bs (tail_not b bs free))
+
+  step_shorter : (b : ℕ) (bs ys : List ℕ) (o : Option (List ℕ)) (t : Bool) → (o ≡ Some ys → length ys < length bs) → cond t (Some bs) o ≡ Some ys → length ys < suc (length bs)
+  step_shorter b bs ys o true more e = let k : bs ≡ ys = cc in rw (← k) (omega arith)
+  step_shorter b bs ys o false more e = let k : length ys < length bs = more e in omega arith
+
+  -- what stands after the first such character is shorter than the text
+  pub shorter : (bs ys : List ℕ) → after c bs ≡ Some ys → length ys < length bs
+  unfolding after
+  shorter [] ys e = cc
+  shorter (b ∷ bs) ys e = step_shorter b bs ys (after c bs) (eqb b c) (shorter bs ys) e
 
   pub cut_some : (bs xs ys : List ℕ) → (bs ≡ xs ++ (c ∷ ys)) × Lacks c xs → (xs ≡ up_to c bs) × (Some ys ≡ after c bs)
   cut_some bs xs ys h = (sym (ap (up_to c) h.0 ∙ up_to_cut xs ys h.1), sym (ap (after c) h.0 ∙ after_cut xs ys h.1))

@@ -13,7 +13,7 @@ ghost use Rattle.writers.specs.Written.{Begun, Put};
 
 use crate::put::put;
 use channels::{Channel, Fault};
-use records::{Heard, channel_bytes};
+use records::{Heard, HeardBytes, channel_bytes};
 use std::alloc::Global;
 
 // Writes a channel behind the bytes that are there; `Fault::Memory` without memory for it, and then they stay as they were.
@@ -28,7 +28,11 @@ pub fn write_heard(out: &mut Vec<u8>, heard: Heard) -> Result<(), Fault>
     ensures bytes { Put result out.old.items (bytes_of_heard heard) out.new.items }
     ensures back { ReadBack heard }
 {
-    put(out, heard.to_bytes().as_slice())
+    // Each by its own length: bytes of a length that is not known are copied more slowly.
+    match heard.to_bytes() {
+        HeardBytes::Word(bytes) => put(out, &bytes),
+        HeardBytes::Noise(bytes) => put(out, &bytes),
+    }
 }
 
 // Writes all that was heard; where memory fails, some of it.

@@ -24,6 +24,7 @@ fn put_numbers(out: &mut Vec<u8>, numbers: &[u32]) -> Result<(), Fault>
 }
 
 // Puts these bytes behind those that are there, and then numbers; where memory fails, some of it.
+#[inline(always)]
 fn begin(out: &mut Vec<u8>, head: &[u8], numbers: &[u32]) -> Result<(), Fault>
     ensures { Begun result out.old.items (head.now ++ bytes_of_numbers numbers.now) out.new.items }
 {
@@ -31,7 +32,8 @@ fn begin(out: &mut Vec<u8>, head: &[u8], numbers: &[u32]) -> Result<(), Fault>
     put_numbers(out, numbers)
 }
 
-// Puts these bytes behind those that are there, and then numbers; where memory fails, nothing.
+// Puts these bytes behind those that are there, and then numbers; where memory fails, nothing. Taken into its callers, which know how many bytes stand first.
+#[inline(always)]
 pub fn put_whole(out: &mut Vec<u8>, head: &[u8], numbers: &[u32]) -> Result<(), Fault>
     ensures { Put result out.old.items (head.now ++ bytes_of_numbers numbers.now) out.new.items }
 {
